@@ -4,6 +4,11 @@ ghost use Prim.Native.Nat.{ℕ, suc, _<_, _^_};
 ghost use lib.IntN.{ℤ, pos, negℤ, _+ℤ_};
 ghost use lib.Signed.{_≤ℤ_};
 
+mod points;
+
+pub use points::Band;
+pub use points::Reading;
+
 // A loss gives each point a whole-number cost at every level from 0 to 65,536, and answers the step from a level to
 // the next. Nothing else of a loss is known to the code that fits.
 pub trait Loss {
