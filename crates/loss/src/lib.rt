@@ -4,8 +4,15 @@ ghost use Prim.Native.Nat.{ℕ, suc, _<_, _^_};
 ghost use lib.IntN.{ℤ, pos, negℤ, _+ℤ_};
 ghost use lib.Signed.{_≤ℤ_};
 
+mod losses;
 mod points;
 
+pub use losses::Absolute;
+pub use losses::AbsoluteLoss;
+pub use losses::Bands;
+pub use losses::BandsLoss;
+pub use losses::Squares;
+pub use losses::SquaresLoss;
 pub use points::Band;
 pub use points::Reading;
 
