@@ -1,2 +1,3 @@
 pub mod Points
 pub mod Costs
+pub mod Limits

@@ -4,9 +4,12 @@ ghost use Prim.Native.Nat.{ℕ, suc, _<_, _^_};
 ghost use lib.IntN.{ℤ, pos, negℤ, _+ℤ_};
 ghost use lib.Signed.{_≤ℤ_};
 
+mod limit;
 mod losses;
 mod points;
 
+pub use limit::PullLimit;
+pub use limit::PullLimitLoss;
 pub use losses::Absolute;
 pub use losses::AbsoluteLoss;
 pub use losses::Bands;
