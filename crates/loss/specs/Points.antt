@@ -1,5 +1,5 @@
 -- Which readings and bands there are, and what refuses any other. Assumes nothing.
-use Prim.Native.Nat.{ℕ}
+use Prim.Native.Nat.{ℕ, _≤_}
 use mathlib.Core.Bool.{Bool, _&&_, cond}
 use lib.Dec.{leb}
 use Rattle.std.specs.declared.result.Result.{Result}
@@ -27,3 +27,10 @@ band-of lo hi w =
     cond (level-fits lo && (level-fits hi && weight-fits w))
     (cond (leb lo hi) (Ok (record { low = lo; high = hi; weight = w })) (Err (outside-text BandEnds)))
     (Err (outside-text PointRange))
+
+-- the ranges, as facts of one that was made
+abbrev pub Sound-reading : Reading → Type 0
+Sound-reading p = (p .level ≤ 65535) × (1 ≤ p .weight) × (p .weight ≤ 1000)
+
+abbrev pub Sound-band : Band → Type 0
+Sound-band p = (p .low ≤ p .high) × (p .high ≤ 65535) × (1 ≤ p .weight) × (p .weight ≤ 1000)

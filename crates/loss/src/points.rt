@@ -1,6 +1,7 @@
 // What a loss measures: readings and bands. Their fields are closed, so that each one that exists was made by `new`,
 // within its ranges.
-ghost use Rattle.loss.specs.Points.{reading-of, band-of};
+ghost use Rattle.loss.specs.Points.{reading-of, band-of, Sound-reading, Sound-band};
+ghost use Rattle.std.specs.Vec.{made};
 ghost use mathlib.Core.Path.{_≡_};
 use fault::Fault;
 use fault::Question;
@@ -19,7 +20,8 @@ pub struct Reading {
 impl Reading {
     // A level up to 65,535 with a weight from 1 to 1,000.
     pub fn new(level: u32, weight: u32) -> Result<Reading, Fault>
-        ensures { λ r. ⌜ r ≡ reading-of level weight ⌝ }
+        ensures value { λ r. ⌜ r ≡ reading-of level weight ⌝ }
+        ensures ranges { λ r. ⌜ made r Sound-reading ⌝ }
     {
         if level > TOP_LEVEL || weight < 1 || weight > TOP_WEIGHT {
             return Err(Fault::plain(Question::PointRange));
@@ -54,7 +56,8 @@ pub struct Band {
 impl Band {
     // Two levels up to 65,535, the lower one first, with a weight from 1 to 1,000.
     pub fn new(low: u32, high: u32, weight: u32) -> Result<Band, Fault>
-        ensures { λ r. ⌜ r ≡ band-of low high weight ⌝ }
+        ensures value { λ r. ⌜ r ≡ band-of low high weight ⌝ }
+        ensures ranges { λ r. ⌜ made r Sound-band ⌝ }
     {
         if low > TOP_LEVEL || high > TOP_LEVEL || weight < 1 || weight > TOP_WEIGHT {
             return Err(Fault::plain(Question::PointRange));
