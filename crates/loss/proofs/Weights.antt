@@ -1,15 +1,12 @@
 -- What a weight does to a difference and to an order. Assumes nothing.
 use Prim.Native.Nat.{ℕ, suc, _+_, _-_, _*_, _^_, _≤_, _<_}
-use mathlib.Core.Path.{_≡_, ap, _∙_}
+use mathlib.Core.Path.{_≡_, ap}
 use mathlib.Core.Logic.{inl, inr}
 use native.Mathlib.Nat.{mul-le-mul-left}
 use native.Mathlib.Omega.{arith}
 use borrow.Author.Differences.{up, down, ints}
 use lib.IntN.{ℤ, pos, negℤ, _+ℤ_, _-ℤ_, _*ℤ_}
 use lib.Signed.{_≤ℤ_}
-use mir.Syntax.{w64}
-use mir.Val.{toZ, ofZ, SFits}
-use Rattle.std.proofs.shelf.Signed.{toZ-ofZ}
 use Rattle.std.proofs.shelf.Tests.{cases-lt}
 use Rattle.loss.specs.Costs.{apart}
 
@@ -35,17 +32,7 @@ next-square l y =
           rw (a, b) (omega (arith, ints))
     ]
 
--- a product that the code takes, of a weight w of 16 bits and a number d of 18 bits
-pub record Product (x z : ℤ) (w : ℕ) (d : ℤ) : Type 0 where
-  pub fits : SFits w64 (x *ℤ z)
-  pub value : toZ w64 (ofZ w64 (x *ℤ z)) ≡ pos w *ℤ d
-  pub low : negℤ (pos (2 ^ 36)) ≤ℤ toZ w64 (ofZ w64 (x *ℤ z))
-  pub high : toZ w64 (ofZ w64 (x *ℤ z)) ≤ℤ pos (2 ^ 36)
-
-pub product : {x z : ℤ} {w : ℕ} {d : ℤ} → x ≡ pos w → z ≡ d → w < 2 ^ 16 → negℤ (pos (2 ^ 18)) ≤ℤ d → d ≤ℤ pos (2 ^ 18) → Product x z w d
-product {x} {z} {w} {d} e f h low high =
-    let l = weighed-le w (negℤ (pos (2 ^ 18))) d low in
-    let u = weighed-le w d (pos (2 ^ 18)) high in
-    let k : SFits w64 (x *ℤ z) = rw (e, f) (omega (arith, ints)) in
-    let v : toZ w64 (ofZ w64 (x *ℤ z)) ≡ pos w *ℤ d = toZ-ofZ w64 (x *ℤ z) k ∙ rw (e, f) in
-    record { fits = k; value = v; low = rw v (omega (arith, ints)); high = rw v (omega (arith, ints)) }
+-- 16 bits of weight on 18 bits of difference stay within 34 either way
+pub weighed-within : (w : ℕ) (z : ℤ) → w < 2 ^ 16 → negℤ (pos (2 ^ 18)) ≤ℤ z → z ≤ℤ pos (2 ^ 18) → (negℤ (pos (2 ^ 34)) ≤ℤ (pos w *ℤ z)) × ((pos w *ℤ z) ≤ℤ pos (2 ^ 34))
+weighed-within w z h low high =
+    (omega (arith, ints, weighed-le w _ z low), omega (arith, ints, weighed-le w z _ high))

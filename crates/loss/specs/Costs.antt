@@ -3,8 +3,8 @@ use Prim.Native.Nat.{ℕ, _+_, _-_, _*_, max}
 use mathlib.Core.Bool.{cond}
 use lib.Dec.{ltb}
 use lib.IntN.{ℤ, pos, negℤ, _-ℤ_, _*ℤ_}
-use Rattle.loss.specs.declared.points.Reading.{Reading}
-use Rattle.loss.specs.declared.points.Band.{Band}
+use Rattle.loss.specs.declared.readings.Reading.{Reading}
+use Rattle.loss.specs.declared.spans.Band.{Band}
 
 -- how far two levels lie apart
 abbrev pub apart : ℕ → ℕ → ℕ

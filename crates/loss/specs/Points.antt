@@ -7,8 +7,8 @@ use Rattle.std.specs.declared.result.Result.the-variants.{Ok, Err}
 use Rattle.fault.specs.declared.Fault.{Fault}
 use Rattle.fault.specs.declared.Question.the-variants.{PointRange, BandEnds}
 use Rattle.fault.specs.Numbers.{outside-text}
-use Rattle.loss.specs.declared.points.Reading.{Reading}
-use Rattle.loss.specs.declared.points.Band.{Band}
+use Rattle.loss.specs.declared.readings.Reading.{Reading}
+use Rattle.loss.specs.declared.spans.Band.{Band}
 
 abbrev pub level-fits : ℕ → Bool
 level-fits l = leb l 65535

@@ -4,9 +4,10 @@ ghost use Prim.Native.Nat.{ℕ, suc, _<_, _^_};
 ghost use lib.IntN.{ℤ, pos, negℤ, _+ℤ_};
 ghost use lib.Signed.{_≤ℤ_};
 
-mod limit;
-mod losses;
-mod points;
+pub mod limit;
+pub mod losses;
+pub mod readings;
+pub mod spans;
 
 pub use limit::PullLimit;
 pub use limit::PullLimitLoss;
@@ -16,8 +17,8 @@ pub use losses::Bands;
 pub use losses::BandsLoss;
 pub use losses::Squares;
 pub use losses::SquaresLoss;
-pub use points::Band;
-pub use points::Reading;
+pub use readings::Reading;
+pub use spans::Band;
 
 // A loss gives each point a whole-number cost at every level from 0 to 65,536, and answers the step from a level to
 // the next. Nothing else of a loss is known to the code that fits.
