@@ -51,12 +51,8 @@ pub impl Loss for Absolute as AbsoluteLoss {
     ghost slope = { λ _. absolute-step };
 
     fn step(&self, point: &Reading, level: u16) -> i64 {
-        let weight = i64::from(point.weight());
-        if level < point.level() {
-            -weight
-        } else {
-            weight
-        }
+        let pull = i64::from(point.weight());
+        if level < point.level() { -pull } else { pull }
     }
 }
 
