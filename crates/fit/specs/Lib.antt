@@ -1,0 +1,5 @@
+pub mod Best
+pub mod MaxMin
+pub mod Cheapest
+pub mod Pooling
+pub mod Entries
