@@ -16,6 +16,9 @@ use Rattle.fit.specs.Pooling.{Best}
 abbrev pub Rises : {P : Type 0} → (P → ℕ → ℤ) → ℕ → Type 0
 Rises {P} step top = (p : P) (l : ℕ) → suc l < top → step p l ≤ℤ step p (suc l)
 
+pub rises-below : {P : Type 0} (step : P → ℕ → ℤ) (m n : ℕ) → n ≤ m → Rises step m → Rises step n
+rises-below step m n h rises p l k = rises p l (omega arith)
+
 module _ {P : Type 0} (step : P → ℕ → ℤ) (top : ℕ) (rises : Rises step top) where
   summed-next : (ps : List P) (l : ℕ) → suc l < top → summed-step step ps l ≤ℤ summed-step step ps (suc l)
   summed-next [] l h = ≤ℤ-refl _
@@ -42,7 +45,7 @@ by-sign : (z : ℤ) {X : Type 0} → (nonNeg z ≡ true → pos 0 ≤ℤ z → X
 by-sign (pos n) yes′ no′ = yes′ refl (omega (arith, ints))
 by-sign (negsuc n) yes′ no′ = no′ refl (omega (arith, ints))
 
-found : (s : ℕ → ℤ) (l n : ℕ) → Found s l n (first-up s l n)
+pub found : (s : ℕ → ℤ) (l n : ℕ) → Found s l n (first-up s l n)
 unfolding first-up
 found s l zero = record { from = omega arith; to = omega arith; below = λ m h k. absurd (omega arith); here = λ h. absurd (omega arith) }
 found s l (suc n) =

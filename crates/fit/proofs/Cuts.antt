@@ -13,7 +13,7 @@ use Rattle.std.proofs.shelf.Signed.{ints}
 use Rattle.std.proofs.shelf.Tests.{cases-lt}
 use Rattle.fit.specs.Best.{total}
 use Rattle.fit.specs.Cheapest.{NeverFalls, Table}
-use Rattle.fit.specs.Pooling.{Fronts, Backs, Pooled, level-of, end-of, spread, Stacked}
+use Rattle.fit.specs.Pooling.{Fronts, Backs, Pooled, level-of, spread, Covers, Ends, Stacked}
 use Rattle.fit.specs.declared.Block.{Block}
 use Rattle.fit.proofs.Signs.{fronts-under, fronts-append, fronts-most, backs-over, backs-append, backs-total}
 
@@ -46,32 +46,27 @@ rising-block (l ∷ []) (suc n) v r u = (u .0, rising-block [] (suc n) v tt tt)
 rising-block (l ∷ m ∷ ls) n v r u = (r .0, rising-block (m ∷ ls) n v (r .1) (u .1))
 
 module _ {P : Type 0} (step : P → ℕ → ℤ) (top : ℕ) where
-  pub stacked-end : (bs : List Block) (ps : List P) → Stacked step top bs ps → length ps ≡ end-of bs
-  stacked-end [] ps s = ap length s
-  stacked-end (b ∷ bs) ps s = s .3
-
   -- the newest run has the points between the two ends
-  run-length : (bs : List Block) (b : Block) (ps : List P) (s : Stacked step top (b ∷ bs) ps) → length (s .1) ≡ b .end - end-of bs
-  run-length bs b ps s =
-      omega (arith, stacked-end bs (s .0) (s .6), s .3, length-append (s .0) (s .1), ap length (s .2))
+  run-length : (b : Block) (ps earlier run : List P) → Ends step top b ps earlier run → length run ≡ b .end - b .start
+  run-length b ps earlier run e = omega (arith, e .start, e .end, length-append earlier run, ap length (e .split))
 
   pub stacked-length : (bs : List Block) (ps : List P) → Stacked step top bs ps → length (spread bs) ≡ length ps
   stacked-length [] ps s = sym (ap length s)
   stacked-length (b ∷ bs) ps s =
-      omega (arith, length-append (spread bs) (replicate (b .end - end-of bs) (b .level)), length-replicate (b .end - end-of bs) (b .level), stacked-length bs (s .0) (s .6), run-length bs b ps s, length-append (s .0) (s .1), ap length (s .2))
+      omega (arith, length-append (spread bs) (replicate (b .end - b .start) (b .level)), length-replicate (b .end - b .start) (b .level), stacked-length bs (s .0) (s .4), run-length b ps (s .0) (s .1) (s .2), length-append (s .0) (s .1), ap length (s .2 .split))
 
   pub stacked-under : (m : ℕ) (bs : List Block) (ps : List P) → level-of bs ≤ m → Stacked step top bs ps → All (λ l. l ≤ m) (spread bs)
   stacked-under m [] ps h s = tt
   stacked-under m (b ∷ bs) ps h s =
-      all-append (λ l. l ≤ m) _ _ (stacked-under m bs (s .0) (omega (arith, s .5)) (s .6)) (all-replicate (λ l. l ≤ m) _ (b .level) h)
+      all-append (λ l. l ≤ m) _ _ (stacked-under m bs (s .0) (omega (arith, s .3)) (s .4)) (all-replicate (λ l. l ≤ m) _ (b .level) h)
 
   stacked-backs : (m : ℕ) (bs : List Block) (ps : List P) → level-of bs ≤ m → m < top → Stacked step top bs ps → Backs (λ p. step p m) ps (pos 0)
   stacked-backs m [] ps h t s = subst (λ x. Backs (λ p. step p m) x (pos 0)) (sym s) tt
   stacked-backs m (b ∷ bs) ps h t s =
       let f : P → ℤ = λ p. step p m in
-      let back = s .4 .backs m h t in
-      let more = backs-over f (pos 0) (total f (s .1) +ℤ pos 0) (s .0) (backs-total f (pos 0) (s .1) (omega (arith, ints)) back) (stacked-backs m bs (s .0) (omega (arith, s .5)) t (s .6)) in
-      subst (λ x. Backs f x (pos 0)) (sym (s .2)) (backs-append f (pos 0) (s .0) (s .1) more back)
+      let back = s .2 .pooled .backs m h t in
+      let more = backs-over f (pos 0) (total f (s .1) +ℤ pos 0) (s .0) (backs-total f (pos 0) (s .1) (omega (arith, ints)) back) (stacked-backs m bs (s .0) (omega (arith, s .3)) t (s .4)) in
+      subst (λ x. Backs f x (pos 0)) (sym (s .2 .split)) (backs-append f (pos 0) (s .0) (s .1) more back)
 
   pub stacked-cut : (m : ℕ) (bs : List Block) (ps : List P) → m < top → Stacked step top bs ps → Cut (λ p. step p m) m ps (spread bs)
   stacked-cut m [] ps t s = record {
@@ -90,20 +85,20 @@ module _ {P : Type 0} (step : P → ℕ → ℤ) (top : ℕ) where
   }
   stacked-cut m (b ∷ bs) ps t s =
       let f : P → ℤ = λ p. step p m in
-      let n = b .end - end-of bs in
+      let n = b .end - b .start in
       ⊎-elim
       (λ (lt : m < b .level).
-      let c = stacked-cut m bs (s .0) t (s .6) in
-      let run = fronts-under f (pos 0 +ℤ total f (c .high)) (pos 0) (s .1) (fronts-most f (c .high) (c .fronts)) (s .4 .fronts m lt) in
+      let c = stacked-cut m bs (s .0) t (s .4) in
+      let run = fronts-under f (pos 0 +ℤ total f (c .high)) (pos 0) (s .1) (fronts-most f (c .high) (c .fronts)) (s .2 .pooled .fronts m lt) in
       record {
         low = c .low;
         high = c .high ++ s .1;
         lows = c .lows;
         highs = c .highs ++ replicate n (b .level);
-        points = s .2 ∙ ap (λ x. x ++ s .1) (c .points) ∙ append-assoc (c .low) (c .high) (s .1);
+        points = s .2 .split ∙ ap (λ x. x ++ s .1) (c .points) ∙ append-assoc (c .low) (c .high) (s .1);
         levels = ap (λ x. x ++ replicate n (b .level)) (c .levels) ∙ append-assoc (c .lows) (c .highs) (replicate n (b .level));
         low-even = c .low-even;
-        high-even = omega (arith, length-append (c .highs) (replicate n (b .level)), length-append (c .high) (s .1), length-replicate n (b .level), run-length bs b ps s, c .high-even);
+        high-even = omega (arith, length-append (c .highs) (replicate n (b .level)), length-append (c .high) (s .1), length-replicate n (b .level), run-length b ps (s .0) (s .1) (s .2), c .high-even);
         backs = c .backs;
         fronts = fronts-append f (pos 0) (c .high) (s .1) (c .fronts) run;
         under = c .under;
@@ -125,14 +120,22 @@ module _ {P : Type 0} (step : P → ℕ → ℤ) (top : ℕ) where
       })
       (cases-lt m (b .level))
 
+  pub stacked-covers : (bs : List Block) (ps : List P) → Stacked step top bs ps → Covers bs (length ps)
+  stacked-covers [] ps s = ap length s
+  stacked-covers (b ∷ bs) ps s = (
+    sym (s .2 .end),
+    omega (arith, s .2 .start, s .2 .end, length-append (s .0) (s .1), ap length (s .2 .split)),
+    subst (Covers bs) (s .2 .start) (stacked-covers bs (s .0) (s .4)),
+  )
+
   stacked-top : (bs : List Block) (ps : List P) → Stacked step top bs ps → level-of bs ≤ top
   stacked-top [] ps s = omega arith
-  stacked-top (b ∷ bs) ps s = s .4 .within
+  stacked-top (b ∷ bs) ps s = s .2 .pooled .within
 
   stacked-rising : (bs : List Block) (ps : List P) → Stacked step top bs ps → NeverFalls (spread bs)
   stacked-rising [] ps s = tt
   stacked-rising (b ∷ bs) ps s =
-      rising-block (spread bs) (b .end - end-of bs) (b .level) (stacked-rising bs (s .0) (s .6)) (stacked-under (b .level) bs (s .0) (s .5) (s .6))
+      rising-block (spread bs) (b .end - b .start) (b .level) (stacked-rising bs (s .0) (s .4)) (stacked-under (b .level) bs (s .0) (s .3) (s .4))
 
   pub stacked-table : (bs : List Block) (ps : List P) → Stacked step top bs ps → Table top ps (spread bs)
   stacked-table bs ps s = record {

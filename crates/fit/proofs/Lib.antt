@@ -5,3 +5,5 @@ pub mod Cuts
 pub mod Reaches
 pub mod Cheap
 pub mod Runs
+pub mod Piles
+pub mod Steps

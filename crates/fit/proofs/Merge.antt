@@ -1,15 +1,17 @@
 -- One point at its best level is pooled, and so are two neighbouring pooled runs at the best level of both where the
 -- second was the lower. Assumes nothing.
+use mathlib.Core.Path.{_≡_, sym, subst}
 use mathlib.Core.List.{List, [], _∷_, _++_}
 use mathlib.Core.Logic.{⊎-elim}
-use Prim.Native.Nat.{ℕ, _≤_, _<_}
+use Prim.Native.Nat.{ℕ, _-_, _≤_, _<_}
 use native.Mathlib.Omega.{arith}
 use lib.IntN.{ℤ, pos, _+ℤ_}
 use lib.ListN.{length, length-append}
 use Rattle.std.proofs.shelf.Signed.{ints}
 use Rattle.std.proofs.shelf.Tests.{cases-lt}
-use Rattle.fit.specs.Best.{total}
+use Rattle.fit.specs.Best.{total, summed-step, first-up}
 use Rattle.fit.specs.Pooling.{Fronts, Backs, Best, Pooled}
+use Rattle.fit.proofs.Bests.{Rises, Found, found, summed-rises}
 use Rattle.fit.proofs.Signs.{total-append, fronts-under, fronts-append, fronts-total, fronts-by-backs, backs-over, backs-append, backs-total, backs-by-fronts}
 
 module _ {P : Type 0} (step : P → ℕ → ℤ) (top : ℕ) where
@@ -66,4 +68,25 @@ module _ {P : Type 0} (step : P → ℕ → ℤ) (top : ℕ) where
       within = best .within;
       fronts = fronts;
       backs = backs;
+    }
+
+-- the best level of both lies between their levels, so it is enough to search there
+pub joint-best : {P : Type 0} (step : P → ℕ → ℤ) (top : ℕ) → Rises step top → (xs ys : List P) (a b v : ℕ) → Pooled step top xs a → Pooled step top ys b → b < a → v ≡ first-up (summed-step step (xs ++ ys)) b (a - b) → Best step top (xs ++ ys) v
+joint-best {P} step top rises xs ys a b v pa pb falls is =
+    let s = summed-step step (xs ++ ys) in
+    let f : Found s b (a - b) v = subst (Found s b (a - b)) (sym is) (found s b (a - b)) in
+    record {
+      within = omega (arith, f .to, pa .within);
+      below = λ l h.
+          let at : P → ℤ = λ p. step p l in
+          ⊎-elim
+          (λ (lt : l < b). omega (arith, ints, total-append at xs ys, fronts-total at (pos 0) xs (pa .some) (pa .fronts l (omega arith)), fronts-total at (pos 0) ys (pb .some) (pb .fronts l lt)))
+          (λ (ge : b ≤ l). f .below l ge h)
+          (cases-lt l b);
+      above = λ l h t.
+          let at : P → ℤ = λ p. step p l in
+          ⊎-elim
+          (λ (lt : v < a). omega (arith, ints, f .here (omega arith), summed-rises step top rises (xs ++ ys) v l h t))
+          (λ (ge : a ≤ v). omega (arith, ints, total-append at xs ys, backs-total at (pos 0) xs (omega (arith, ints)) (pa .backs l (omega arith) t), backs-total at (pos 0) ys (omega (arith, ints)) (pb .backs l (omega arith) t)))
+          (cases-lt v a);
     }

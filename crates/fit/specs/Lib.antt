@@ -3,3 +3,4 @@ pub mod MaxMin
 pub mod Cheapest
 pub mod Pooling
 pub mod Entries
+pub mod Calls
