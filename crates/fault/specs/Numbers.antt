@@ -1,17 +1,29 @@
 -- Each question's number and layer. Assumes nothing.
 use Prim.Native.Nat.{ℕ}
 use Rattle.fault.specs.declared.Question.{Question}
-use Rattle.fault.specs.declared.Question.the-variants.{PointRange, BandEnds}
+use Rattle.fault.specs.declared.Question.the-variants.{PointRange, BandEnds, PutCount, PutRoom, ConvertEmpty, ConvertBelow, ConvertAbove, ConvertFalls}
 use Rattle.fault.specs.declared.Fault.{Fault}
 
 abbrev pub number-of : Question → ℕ
 number-of PointRange = 22
 number-of BandEnds = 23
+number-of PutCount = 1
+number-of PutRoom = 11
+number-of ConvertEmpty = 7
+number-of ConvertBelow = 8
+number-of ConvertAbove = 9
+number-of ConvertFalls = 10
 
 -- 1 the fields of a line, 2 its form, 3 the bench, 4 the table
 abbrev pub layer-of : Question → ℕ
 layer-of PointRange = 1
 layer-of BandEnds = 2
+layer-of PutCount = 4
+layer-of PutRoom = 4
+layer-of ConvertEmpty = 3
+layer-of ConvertBelow = 3
+layer-of ConvertAbove = 3
+layer-of ConvertFalls = 3
 
 -- a refusal where nothing was read from text
 abbrev pub outside-text : Question → Fault

@@ -9,6 +9,18 @@ pub enum Question {
     PointRange,
     // Is the low end of a band at most its high end?
     BandEnds,
+    // Is the count of the row to put at most 16,777,215?
+    PutCount,
+    // Has the holder fewer rows than its capacity?
+    PutRoom,
+    // Is there a row to convert by?
+    ConvertEmpty,
+    // Is the count to convert at least that of row 0?
+    ConvertBelow,
+    // Has some row a count at least the one to convert?
+    ConvertAbove,
+    // Is the level of the row found at least that of the row before?
+    ConvertFalls,
 }
 
 impl Question {
@@ -19,6 +31,12 @@ impl Question {
         match self {
             Question::PointRange => 22,
             Question::BandEnds => 23,
+            Question::PutCount => 1,
+            Question::PutRoom => 11,
+            Question::ConvertEmpty => 7,
+            Question::ConvertBelow => 8,
+            Question::ConvertAbove => 9,
+            Question::ConvertFalls => 10,
         }
     }
 
@@ -29,6 +47,12 @@ impl Question {
         match self {
             Question::PointRange => 1,
             Question::BandEnds => 2,
+            Question::PutCount => 4,
+            Question::PutRoom => 4,
+            Question::ConvertEmpty => 3,
+            Question::ConvertBelow => 3,
+            Question::ConvertAbove => 3,
+            Question::ConvertFalls => 3,
         }
     }
 }
