@@ -1,0 +1,3 @@
+// Tables: rows of a count and a level, the holders that keep them, and the conversion of counts by them.
+pub mod convert;
+pub mod holder;
