@@ -2,3 +2,5 @@ pub mod Found
 pub mod Lines
 pub mod Answered
 pub mod Rises
+pub mod Written
+pub mod Tables

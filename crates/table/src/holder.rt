@@ -27,9 +27,10 @@ pub trait Holder {
     // What one more row makes of these bytes, with these rows held.
     ghost extended: { List ℕ → List (ℕ × ℕ) → ℕ × ℕ → List ℕ };
 
-    law bounded: { (s : Self) → room s ≤ 1024 };
+    // What each holder shows of itself: its capacity is at most 1,024, and it has no more rows than that.
+    ghost bounded: { (s : Self) → room s ≤ 1024 };
 
-    law within: { (s : Self) → length (listed s) ≤ room s };
+    ghost within: { (s : Self) → length (listed s) ≤ room s };
 
     // Leaves no rows.
     fn clear(&mut self)

@@ -12,8 +12,8 @@ pub add-i : need.add-i
 add-i g c =
     let rows = g .H·Holder .listed (c .args .holder .now) in
     let h = nth-within rows (c .loop-c .i) _ (sym (c .in-Some .ensures tt)) in
-    let b = g .H·Holder·met .bounded (c .args .holder .now) in
-    let w = g .H·Holder·met .within (c .args .holder .now) in
+    let b = g .H·Holder .bounded (c .args .holder .now) in
+    let w = g .H·Holder .within (c .args .holder .now) in
     search needs
 
 pub loop-c-less : need.loop-c-less
