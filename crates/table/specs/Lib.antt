@@ -1,3 +1,4 @@
 pub mod Rows
 pub mod Convert
 pub mod Text
+pub mod Lent

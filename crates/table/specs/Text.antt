@@ -1,8 +1,7 @@
 -- A table as text: what a row is written as, and where. Assumes nothing.
 use mathlib.Core.List.{List, [], _∷_, _++_}
-use Prim.Native.Nat.{ℕ, _+_, _*_, _/_, _≤_, min}
-use native.Mathlib.Omega.{arith}
-use lib.ListN.{length, take, drop, length-take}
+use Prim.Native.Nat.{ℕ, _+_, _/_, min}
+use lib.ListN.{length, take, drop}
 use Rattle.std.specs.Written.{decimal}
 use Rattle.std.specs.shelf.Lists.{joined}
 
@@ -24,10 +23,3 @@ over bs at ws = take at bs ++ (ws ++ drop (at + length ws) bs)
 -- one more row goes right behind the rows that there are
 abbrev pub text-extended : List ℕ → List (ℕ × ℕ) → ℕ × ℕ → List ℕ
 text-extended bs rs r = over bs (length (table-text rs)) (row-text r)
-
--- such a table has at most 1,024 rows, and room for those it has
-pub text-bounded : (bs : List ℕ) → text-room bs ≤ 1024
-text-bounded bs = omega arith
-
-pub text-within : (n : ℕ) (rs : List (ℕ × ℕ)) (bs : List ℕ) → n ≤ 1024 → 15 * n ≤ length bs → length (take n rs) ≤ text-room bs
-text-within n rs bs few fits = omega (arith, length-take n rs)

@@ -7,8 +7,13 @@ ghost use lib.ListN.{length};
 ghost use Rattle.std.specs.shelf.Maps.{nth};
 ghost use Rattle.table.specs.Rows.{put-answer, once-accepted};
 
-// A row: its count, at most 16,777,215, and its level.
+// A row: its count, at most MAX_COUNT, and its level.
 pub type Row = (u32, u16);
+
+pub const MAX_COUNT: u32 = 16_777_215;
+
+// The most rows that any holder has room for.
+pub const MAX_ROWS: usize = 1024;
 
 // A holder keeps rows in the order they were put, as many as its capacity allows.
 pub trait Holder {

@@ -10,8 +10,8 @@ use Rattle.std.proofs.shelf.Tests.{le-leb, lt-ltb, le-ltb, cond-true, cond-fals
 use Rattle.table.specs.Text.{row-text, table-text, text-room, over}
 use Rattle.table.proofs.Written.{length-over}
 use Rattle.table.proofs.Tables.{row-short, used-is, text-more}
-use Rattle.table.proofs.text.TextHolder.put.Needs as need
-use Rattle.table.proofs.text.TextHolder.put.Needs.{After-append}
+use Rattle.table.proofs.text.calls.TextHolder.put.Needs as need
+use Rattle.table.proofs.text.calls.TextHolder.put.Needs.{After-append}
 
 pub returns-then-self-capacity : need.returns-then-self-capacity
 returns-then-self-capacity c =

@@ -1,6 +1,6 @@
 use borrow.Author.Needs.{needs}
 use Rattle.table.specs.Text.{table-text}
-use Rattle.table.proofs.text.TextHolder.clear.Needs as need
+use Rattle.table.proofs.text.calls.TextHolder.clear.Needs as need
 
 pub ghost-self : need.ghost-self
 unfolding table-text

@@ -4,7 +4,7 @@ use lib.ListN.{take}
 use Rattle.std.specs.declared.option.Option.the-variants.{Some}
 use Rattle.std.proofs.shelf.Lists.{length-take-le, getD-take}
 use Rattle.std.proofs.shelf.Maps.{nth-getD, nth-past}
-use Rattle.table.proofs.text.TextHolder.row.Needs as need
+use Rattle.table.proofs.text.calls.TextHolder.row.Needs as need
 
 pub returns-then-i-self : need.returns-then-i-self
 returns-then-i-self c =

@@ -1,0 +1,87 @@
+// The calls of the text holder.
+use crate::holder::Holder;
+use crate::holder::MAX_COUNT;
+use crate::holder::MAX_ROWS;
+use crate::holder::Row;
+use crate::text::Page;
+use crate::text::TextTable;
+use fault::Fault;
+use fault::Question;
+ghost use mathlib.Core.Path.{_≡_};
+ghost use mathlib.Core.List.{[]};
+ghost use Rattle.table.specs.Text.{table-text, text-room, text-extended};
+ghost use Rattle.table.specs.Lent.{text-rows, text-bytes, text-bounded, text-within};
+
+// The longest row: 8 digits, a space, 5 digits and a newline.
+const ROW_BYTES: usize = 15;
+
+impl<'a> TextTable<'a> {
+    // A table with no rows, whatever the bytes are.
+    pub fn new(bytes: &'a mut [u8]) -> TextTable<'a>
+        ensures rows { λ r. ⌜ text-rows r ≡ [] ⌝ }
+        ensures bytes { λ r. ⌜ text-bytes r ≡ now (bytes .entry) ⌝ }
+    {
+        TextTable {
+            page: Page { bytes, used: 0 },
+            rows: [(0, 0); MAX_ROWS],
+            len: 0,
+        }
+    }
+
+    // The bytes in use, for printing.
+    pub fn text(&self) -> &[u8]
+        ensures { λ r. ⌜ now r ≡ table-text (text-rows (now (self .entry))) ⌝ }
+    {
+        &self.page.bytes[..self.page.used]
+    }
+}
+
+pub impl<'a> Holder for TextTable<'a> as TextHolder {
+    ghost listed = { text-rows };
+
+    ghost room = { λ s. text-room (text-bytes s) };
+
+    ghost memory = { text-bytes };
+
+    ghost bounded = { text-bounded };
+
+    ghost within = { text-within };
+
+    ghost cleared = { λ bs _. bs };
+
+    ghost extended = { text-extended };
+
+    fn clear(&mut self) {
+        self.page.used = 0;
+        self.len = 0;
+    }
+
+    fn put(&mut self, count: u32, level: u16) -> Result<(), Fault> {
+        if count > MAX_COUNT {
+            return Err(Fault::plain(Question::PutCount));
+        }
+        if self.len >= self.capacity() {
+            return Err(Fault::plain(Question::PutRoom));
+        }
+        self.page.append((count, level));
+        self.rows[self.len] = (count, level);
+        self.len += 1;
+        Ok(())
+    }
+
+    fn row(&self, i: usize) -> Option<Row> {
+        if i < self.len {
+            Some(self.rows[i])
+        } else {
+            None
+        }
+    }
+
+    fn len(&self) -> usize {
+        self.len
+    }
+
+    fn capacity(&self) -> usize {
+        (self.page.bytes.len() / ROW_BYTES).min(MAX_ROWS)
+    }
+}
