@@ -4,3 +4,4 @@ pub mod Answered
 pub mod Rises
 pub mod Written
 pub mod Tables
+pub mod Reading

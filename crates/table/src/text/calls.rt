@@ -9,7 +9,7 @@ use fault::Fault;
 use fault::Question;
 ghost use mathlib.Core.Path.{_≡_};
 ghost use mathlib.Core.List.{[]};
-ghost use Rattle.table.specs.Text.{table-text, text-room, text-extended};
+ghost use Rattle.table.specs.Text.{table-text, text-room, text-extended, One-reading};
 ghost use Rattle.table.specs.Lent.{text-rows, text-bytes, text-bounded, text-within};
 
 // The longest row: 8 digits, a space, 5 digits and a newline.
@@ -28,9 +28,10 @@ impl<'a> TextTable<'a> {
         }
     }
 
-    // The bytes in use, for printing.
+    // The bytes in use, for printing. They say which rows there are: no other rows have the same text.
     pub fn text(&self) -> &[u8]
-        ensures { λ r. ⌜ now r ≡ table-text (text-rows (now (self .entry))) ⌝ }
+        ensures value { λ r. ⌜ now r ≡ table-text (text-rows (now (self .entry))) ⌝ }
+        ensures reading { λ _. ⌜ One-reading ⌝ }
     {
         &self.page.bytes[..self.page.used]
     }
