@@ -5,3 +5,4 @@ pub mod Rises
 pub mod Written
 pub mod Tables
 pub mod Reading
+pub mod Laid

@@ -2,4 +2,6 @@
 pub mod convert;
 mod digits;
 pub mod holder;
+#[cfg(test)]
+mod tests;
 pub mod text;
