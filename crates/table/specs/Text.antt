@@ -7,7 +7,7 @@ use Rattle.std.specs.Written.{decimal}
 use Rattle.std.specs.shelf.Lists.{joined}
 use Rattle.table.specs.Rows.{count-at, level-at}
 
--- the count, a space, the level and a newline
+-- one line: both numbers in decimal with a space between them, ended by a newline
 abbrev pub row-text : ℕ × ℕ → List ℕ
 row-text r = decimal (r .0) ++ (32 ∷ (decimal (r .1) ++ (10 ∷ [])))
 

@@ -6,7 +6,7 @@ ghost use mathlib.Core.Path.{_≡_};
 ghost use Prim.Native.Nat.{ℕ, _<_, _≤_};
 ghost use Rattle.table.specs.Convert.{first-at-least, straight-line, conversion, Rising, Orderly};
 
-// The place of the first row whose count is at least the given one, or the number of rows.
+// The place of the first row that reaches the count, or the number of rows where none does.
 fn find<H: Holder>(holder: &H, count: u32) -> usize
     ensures { λ r. ⌜ r ≡ first-at-least (listed (now (holder .entry))) count ⌝ }
 {
@@ -32,7 +32,7 @@ fn between(k0: u32, l0: u16, k1: u32, l1: u16, count: u32) -> u16
 
 // The level that a count converts to, for every holder, whatever rows were put into it.
 //
-// The row found is the first whose count is at least the given one. A row of that very count gives its level, and
+// The row found is the first that reaches the count. A row of that very count gives its level, and
 // else the level lies on the straight line from the row before.
 pub fn convert<H: Holder>(holder: &H, count: u32) -> Result<u16, Fault>
     ensures answer { λ r. ⌜ r ≡ conversion (listed (now (holder .entry))) count ⌝ }
