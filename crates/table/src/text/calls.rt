@@ -8,7 +8,9 @@ use crate::text::TextTable;
 use fault::Fault;
 use fault::Question;
 ghost use mathlib.Core.Path.{_≡_};
-ghost use mathlib.Core.List.{[]};
+ghost use mathlib.Core.List.{[], _∷_, _++_};
+ghost use Prim.Native.Nat.{_<_, _≤_};
+ghost use lib.ListN.{length};
 ghost use Rattle.table.specs.Text.{table-text, text-room, text-extended, One-reading};
 ghost use Rattle.table.specs.Lent.{text-rows, text-bytes, text-bounded, text-within};
 
@@ -34,6 +36,20 @@ impl<'a> TextTable<'a> {
         ensures reading { λ _. ⌜ One-reading ⌝ }
     {
         &self.page.bytes[..self.page.used]
+    }
+
+    // Adds a row that is in range and that there is room for.
+    fn push(&mut self, count: u32, level: u16)
+        requires small { ⌜ count ≤ 16777215 ⌝ }
+        requires room { ⌜ length (text-rows (now self)) < text-room (text-bytes (now self)) ⌝ }
+        ensures rows { λ _. ⌜ text-rows (now (self .exit)) ≡ text-rows (now (self .entry)) ++ (count, level) ∷ [] ⌝ }
+        ensures room { λ _. ⌜ text-room (text-bytes (now (self .exit))) ≡ text-room (text-bytes (now (self .entry))) ⌝ }
+        ensures bytes { λ _. ⌜ text-bytes (now (self .exit)) ≡ text-extended (text-bytes (now (self .entry))) (text-rows (now (self .entry))) (count, level) ⌝ }
+    {
+        let row = (count, level);
+        self.page.append(row);
+        self.rows[self.len] = row;
+        self.len += 1;
     }
 }
 
@@ -61,12 +77,10 @@ pub impl<'a> Holder for TextTable<'a> as TextHolder {
         if count > MAX_COUNT {
             return Err(Fault::plain(Question::PutCount));
         }
-        if self.len >= self.capacity() {
+        if self.len() >= self.capacity() {
             return Err(Fault::plain(Question::PutRoom));
         }
-        self.page.append((count, level));
-        self.rows[self.len] = (count, level);
-        self.len += 1;
+        self.push(count, level);
         Ok(())
     }
 
