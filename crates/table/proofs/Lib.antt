@@ -6,3 +6,4 @@ pub mod Written
 pub mod Tables
 pub mod Reading
 pub mod Laid
+pub mod Items

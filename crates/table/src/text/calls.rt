@@ -85,11 +85,7 @@ pub impl<'a> Holder for TextTable<'a> as TextHolder {
     }
 
     fn row(&self, i: usize) -> Option<Row> {
-        if i < self.len {
-            Some(self.rows[i])
-        } else {
-            None
-        }
+        self.rows[..self.len].get(i).copied()
     }
 
     fn len(&self) -> usize {
