@@ -1,9 +1,7 @@
 -- What a straight line between two rows keeps to. Assumes nothing.
-use mathlib.Core.Path.{_≡_, sym, ap, _∙_}
-use Prim.Native.Nat.{ℕ, _+_, _-_, _*_, _/_, _≤_, _<_}
+use Prim.Native.Nat.{ℕ, _*_, _/_, _≤_, _<_}
 use native.Mathlib.Nat.{div-le-of-le-mul, mul-le-mul-left, mul-comm, le-div-iff-mul-le, div-mul-le-self, le-trans}
 use native.Mathlib.Omega.{arith}
-use Rattle.table.specs.Convert.{straight-line}
 
 -- a part of a rise is no more than all of it
 pub part-le : (a b d : ℕ) → b ≤ d → (a * b) / d ≤ a

@@ -1,13 +1,13 @@
 -- A table's text can be read in one way only. Assumes nothing.
 use mathlib.Core.List.{List, [], _∷_, _++_}
 use mathlib.Core.Path.{_≡_, refl, sym, ap, _∙_}
-use Prim.Native.Nat.{ℕ, zero, suc, _+_, _/_, _%_, _^_, _≤_, _<_}
+use Prim.Native.Nat.{ℕ, suc, _+_, _%_, _^_, _≤_, _<_}
 use native.Mathlib.Omega.{arith}
 use lib.ListN.{length}
 use Rattle.std.specs.Written.{decimal}
 use Rattle.std.proofs.shelf.Lists.{append-assoc, length-append}
 use Rattle.std.proofs.shelf.Decimals.{decimal-by-steps, same-from-decimal}
-use Rattle.table.specs.Text.{row-text, table-text, In-range, One-reading}
+use Rattle.table.specs.Text.{row-text, table-text, One-reading}
 use Rattle.table.proofs.Written.{length-spaced}
 
 -- digits stand above the space and the newline

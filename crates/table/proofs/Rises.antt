@@ -1,23 +1,23 @@
 -- By rising rows a higher count never gets a lower level. Assumes nothing.
 use mathlib.Core.Bool.{Bool, true, false, cond, _||_}
-use mathlib.Core.List.{List, [], _∷_}
+use mathlib.Core.List.{List}
 use mathlib.Core.Logic.{⊎-elim}
 use mathlib.Core.Path.{_≡_, refl, sym, ap, subst, _∙_}
-use Prim.Native.Nat.{ℕ, _+_, _-_, _*_, _/_, _≤_, _<_}
+use Prim.Native.Nat.{ℕ, _-_, _*_, _≤_, _<_}
 use native.Mathlib.Nat.{mul-le-mul-left}
 use native.Mathlib.Omega.{arith}
-use lib.Dec.{leb, ltb, eqb}
+use lib.Dec.{leb}
 use lib.ListN.{length}
 use Rattle.std.specs.declared.result.Result.{Result}
 use Rattle.std.specs.declared.result.Result.the-variants.{Ok, Err}
-use Rattle.std.proofs.shelf.Tests.{cases-lt, cases-eq, leb-true, ltb-true, le-leb, eq-eqb, ne-eqb, cond-true, cond-false, or-left, or-right}
+use Rattle.std.proofs.shelf.Tests.{cases-lt, cases-eq, leb-true, ltb-true, le-leb, eq-eqb, ne-eqb, cond-true, cond-false, or-right}
 use Rattle.fault.specs.declared.Question.{Question}
 use Rattle.fault.specs.declared.Question.the-variants.{ConvertEmpty, ConvertBelow, ConvertAbove, ConvertFalls}
 use Rattle.fault.specs.declared.Fault.{Fault}
 use Rattle.fault.specs.Numbers.{outside-text}
 use Rattle.table.specs.Rows.{count-at, level-at}
 use Rattle.table.specs.Convert.{first-at-least, straight-line, found-level, conversion, Rising, Orderly}
-use Rattle.table.proofs.Found.{first-reaches, first-lower, first-mono}
+use Rattle.table.proofs.Found.{first-reaches, first-mono}
 use Rattle.table.proofs.Lines.{part-le, quotient-mono}
 
 -- an accepted call had each question answered yes

@@ -1,15 +1,15 @@
 -- Bytes written over others. Assumes nothing.
 use mathlib.Core.List.{List, [], _∷_, _++_}
-use mathlib.Core.Path.{_≡_, refl, sym, ap, subst, _∙_}
-use Prim.Native.Nat.{ℕ, _+_, _-_, _/_, _%_, _^_, _≤_, _<_}
+use mathlib.Core.Path.{_≡_, sym, ap, _∙_}
+use Prim.Native.Nat.{ℕ, _+_, _/_, _%_, _^_, _≤_, _<_}
 use native.Mathlib.Nat.{add-assoc}
 use native.Mathlib.Numerals.{add-one}
 use native.Mathlib.Omega.{arith}
-use lib.ListN.{length, take, drop, set, getD}
+use lib.ListN.{length, take, drop, set}
 use Rattle.std.specs.Written.{decimal}
 use Rattle.std.proofs.shelf.Lists.{append-assoc, length-append, length-take-le, length-drop, length-push, drop-more, set-at, take-at, drop-at, drop-drop, set-split, length-set}
-use Rattle.std.proofs.shelf.Decimals.{decimal-digit, decimal-step, decimal-some, length-decimal-le}
-use Rattle.table.specs.Text.{row-text, table-text, over}
+use Rattle.std.proofs.shelf.Decimals.{decimal-step}
+use Rattle.table.specs.Text.{over}
 
 -- one byte more
 pub over-more : (bs : List ℕ) (at : ℕ) (ws : List ℕ) (b : ℕ) → at + length ws < length bs → set (over bs at ws) (at + length ws) b ≡ over bs at (ws ++ (b ∷ []))

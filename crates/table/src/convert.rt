@@ -3,7 +3,7 @@ use crate::holder::Holder;
 use fault::Fault;
 use fault::Question;
 ghost use mathlib.Core.Path.{_≡_};
-ghost use Prim.Native.Nat.{ℕ, _<_, _≤_};
+ghost use Prim.Native.Nat.{_<_, _≤_};
 ghost use Rattle.table.specs.Convert.{first-at-least, straight-line, conversion, Rising, Orderly};
 
 // The place of the first row that reaches the count, or the number of rows where none does.

@@ -2,7 +2,6 @@ use mathlib.Core.Path.{sym, ap, _∙_}
 use Prim.Native.Nat.{_-_}
 use native.Mathlib.Omega.{arith}
 use lib.Arith.{lt-of-le-ne}
-use borrow.Author.Needs.{needs}
 use Rattle.std.specs.declared.result.Result.the-variants.{Ok, Err}
 use Rattle.table.proofs.Answered.{answer-empty, answer-below, answer-above, answer-exact, answer-falls, answer-between, not-first, lower, reached}
 use Rattle.std.specs.Options.{isSome}

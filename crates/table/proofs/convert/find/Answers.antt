@@ -1,10 +1,7 @@
-use mathlib.Core.Path.{_≡_, sym}
+use mathlib.Core.Path.{sym}
 use native.Mathlib.Omega.{arith}
 use native.Mathlib.Numerals.{add-one}
-use Prim.Native.Nat.{suc, _<_, _+_}
-use lib.ListN.{length, drop}
 use borrow.Author.Needs.{needs}
-use Rattle.table.specs.Convert.{first-at-least}
 use Rattle.table.proofs.Found.{nth-within, nth-none, found-here, found-later, found-end}
 use Rattle.table.proofs.convert.find.Needs as need
 

@@ -1,11 +1,10 @@
 use mathlib.Core.List.{[]}
-use mathlib.Core.Path.{_≡_, ap}
+use mathlib.Core.Path.{ap}
 use Prim.Native.Nat.{_+_}
 use native.Mathlib.Omega.{arith}
 use borrow.Author.Needs.{needs}
 use lib.ListN.{length, set}
 use Rattle.std.specs.Written.{decimal}
-use Rattle.table.specs.Text.{row-text}
 use Rattle.table.proofs.Written.{length-over, length-spaced, row-within, row-text-over, row-end}
 use Rattle.table.proofs.digits.write_row.Needs as need
 
