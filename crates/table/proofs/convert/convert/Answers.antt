@@ -18,7 +18,7 @@ abbrev rows : (g : given.Over) → Start g → List (ℕ × ℕ)
 rows g c = g .H·Holder .listed (c .args .holder .now)
 
 entered : (g : given.Over) (c : After-find-found g) → Entered (g .H·Holder .listed (c .args .holder .now)) (c .args .count) (c .find-found .result) (c .in-Some .first, c .in-Some .field-0-1)
-entered g c = record { first = sym (c .in-Some .ensures tt); above = c .if-count-first .left; found = c .find-found .ensures }
+entered g c = record { first = sym (c .in-Some .ensures tt); above = omega (arith, c .if-count-first .left); found = c .find-found .ensures }
 
 there : (g : given.Over) (c : In-Some-row g) → nth (g .H·Holder .listed (c .args .holder .now)) (c .find-found .result) ≡ Some (c .in-Some-row .k1, c .in-Some-row .l1)
 there g c = sym (c .in-Some-row .ensures tt)
@@ -43,7 +43,7 @@ returns-then-count-first g c =
     record {
       answer =
           ap Err (c .plain-then-count-first .ensures)
-          ∙ sym (answer-below rs (c .args .count) _ (sym (c .in-Some .ensures tt)) (c .if-count-first .taken));
+          ∙ sym (answer-below rs (c .args .count) _ (sym (c .in-Some .ensures tt)) (omega (arith, c .if-count-first .taken)));
       orderly = orderly rs;
     }
 
@@ -85,7 +85,7 @@ returns-then-l1-l0 g c =
           ap Err (c .plain-then-l1-l0 .ensures)
           ∙ sym
           (answer-falls (entered g (at .After-find-found)) _ (there g (at .In-Some-row)) (c .if-k1-count .left) _
-          (before g (at .After-unwrap-k0)) (c .if-l1-l0 .taken));
+          (before g (at .After-unwrap-k0)) (omega (arith, c .if-l1-l0 .taken)));
       orderly = orderly (rows g (at .Start));
     }
 
@@ -94,7 +94,7 @@ between-requires g c κs =
     let at = need.at·between-requires g c in
     let here = entered g (at .After-find-found) in (
       lower here _ (there g (at .In-Some-row)) (c .if-k1-count .left) _ (before g (at .After-unwrap-k0)),
-      (past here _ (there g (at .In-Some-row)) (c .if-k1-count .left), c .if-l1-l0 .left),
+      (past here _ (there g (at .In-Some-row)) (c .if-k1-count .left), omega (arith, c .if-l1-l0 .left)),
     )
 
 pub returns : need.returns
@@ -105,6 +105,6 @@ returns g c =
           ap Ok (c .between .ensures)
           ∙ sym
           (answer-between (entered g (at .After-find-found)) _ (there g (at .In-Some-row)) (c .if-k1-count .left) _
-          (before g (at .After-unwrap-k0)) (c .if-l1-l0 .left));
+          (before g (at .After-unwrap-k0)) (omega (arith, c .if-l1-l0 .left)));
       orderly = orderly (rows g (at .Start));
     }

@@ -29,13 +29,13 @@ pub loop-c-again : need.loop-c-again
 loop-c-again g c =
     let e = there g (need.at·loop-c-again g c .In-Some) in
     let h = nth-within _ (c .loop-c .i) _ e in
-    let later = found-later _ (c .loop-c .i) (c .args .count) _ e (c .if-count-c .left) in
+    let later = found-later _ (c .loop-c .i) (c .args .count) _ e (omega (arith, c .if-count-c .left)) in
     (omega (arith, h), rw (add-one (c .loop-c .i)) (omega (arith, later, c .loop-c .inv .1)))
 
 pub returns-then-count-c : need.returns-then-count-c
 returns-then-count-c g c =
     let e = there g (need.at·returns-then-count-c g c .In-Some) in
-    omega (arith, found-here _ (c .loop-c .i) (c .args .count) _ e (c .if-count-c .taken), c .loop-c .inv .1)
+    omega (arith, found-here _ (c .loop-c .i) (c .args .count) _ e (omega (arith, c .if-count-c .taken)), c .loop-c .inv .1)
 
 pub returns-in-rest : need.returns-in-rest
 returns-in-rest g c =
