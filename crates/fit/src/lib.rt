@@ -13,6 +13,9 @@ ghost use Rattle.fit.specs.Entries.{points-of};
 ghost use Rattle.fit.specs.Pooling.{pile, newest-first, falling-two, spread, Covers, Stacked};
 use loss::Loss;
 
+#[cfg(test)]
+mod tests;
+
 // A point and the detector's count that it stands at.
 #[derive(Clone, Copy, Debug)]
 pub struct Entry<P> {
