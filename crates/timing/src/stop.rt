@@ -1,0 +1,53 @@
+// Why the program stops early.
+use fault::Fault;
+use fit::Misfit;
+use std::alloc::AllocError;
+use std::alloc::Refused;
+use std::io;
+use std::num::ParseIntError;
+
+#[derive(Drop)]
+pub enum Stop {
+    // The words of the call are neither none nor `time N`.
+    Usage,
+    Point(Fault),
+    Fit(Misfit),
+    Memory,
+    Io(io::Error),
+}
+
+pub impl From<ParseIntError> for Stop as StopFromParse {
+    fn from(_e: ParseIntError) -> Stop {
+        Stop::Usage
+    }
+}
+
+pub impl From<Fault> for Stop as StopFromFault {
+    fn from(fault: Fault) -> Stop {
+        Stop::Point(fault)
+    }
+}
+
+pub impl From<Misfit> for Stop as StopFromMisfit {
+    fn from(misfit: Misfit) -> Stop {
+        Stop::Fit(misfit)
+    }
+}
+
+pub impl From<AllocError> for Stop as StopFromAlloc {
+    fn from(_e: AllocError) -> Stop {
+        Stop::Memory
+    }
+}
+
+pub impl<T: Drop> From<Refused<T>> for Stop as StopFromRefused {
+    fn from(_e: Refused<T>) -> Stop {
+        Stop::Memory
+    }
+}
+
+pub impl From<io::Error> for Stop as StopFromIo {
+    fn from(error: io::Error) -> Stop {
+        Stop::Io(error)
+    }
+}
