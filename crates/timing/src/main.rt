@@ -130,5 +130,9 @@ fn run(rt: &LibcRuntime) -> Result<(), Stop> {
 }
 
 fn main(rt: LibcRuntime) -> Result<(), Stop> {
-    run(&rt)
+    let ended = run(&rt);
+    if let Err(Stop::Usage) = &ended {
+        let _ = eprintln!(rt, "usage: timing [time N]");
+    }
+    ended
 }
