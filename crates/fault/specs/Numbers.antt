@@ -1,12 +1,18 @@
 -- Each question's number and layer. Assumes nothing.
 use Prim.Native.Nat.{ℕ}
 use Rattle.fault.specs.declared.Question.{Question}
-use Rattle.fault.specs.declared.Question.the-variants.{PointRange, BandEnds, PutCount, PutRoom, ConvertEmpty, ConvertBelow, ConvertAbove, ConvertFalls}
+use Rattle.fault.specs.declared.Question.the-variants.{PointRange, BandEnds, AddCount, AddTwice, AddFull, DropNone, LayNone, LayRoom, PutCount, PutRoom, ConvertEmpty, ConvertBelow, ConvertAbove, ConvertFalls}
 use Rattle.fault.specs.declared.Fault.{Fault}
 
 abbrev pub number-of : Question → ℕ
 number-of PointRange = 22
 number-of BandEnds = 23
+number-of AddCount = 1
+number-of AddTwice = 2
+number-of AddFull = 3
+number-of DropNone = 4
+number-of LayNone = 5
+number-of LayRoom = 6
 number-of PutCount = 1
 number-of PutRoom = 11
 number-of ConvertEmpty = 7
@@ -18,6 +24,12 @@ number-of ConvertFalls = 10
 abbrev pub layer-of : Question → ℕ
 layer-of PointRange = 1
 layer-of BandEnds = 2
+layer-of AddCount = 3
+layer-of AddTwice = 3
+layer-of AddFull = 3
+layer-of DropNone = 3
+layer-of LayNone = 3
+layer-of LayRoom = 3
 layer-of PutCount = 4
 layer-of PutRoom = 4
 layer-of ConvertEmpty = 3

@@ -9,6 +9,18 @@ pub enum Question {
     PointRange,
     // Is the low end of a band at most its high end?
     BandEnds,
+    // Is the count of the point to add at most 16,777,215?
+    AddCount,
+    // Is no point of the count to add held?
+    AddTwice,
+    // Is a place left for the point to add?
+    AddFull,
+    // Is a point of the count to drop held?
+    DropNone,
+    // Is a point held, so that there is something to lay?
+    LayNone,
+    // Has the holder room for a row for each held point?
+    LayRoom,
     // Is the count of the row to put at most 16,777,215?
     PutCount,
     // Has the holder fewer rows than its capacity?
@@ -31,6 +43,12 @@ impl Question {
         match self {
             Question::PointRange => 22,
             Question::BandEnds => 23,
+            Question::AddCount => 1,
+            Question::AddTwice => 2,
+            Question::AddFull => 3,
+            Question::DropNone => 4,
+            Question::LayNone => 5,
+            Question::LayRoom => 6,
             Question::PutCount => 1,
             Question::PutRoom => 11,
             Question::ConvertEmpty => 7,
@@ -47,6 +65,12 @@ impl Question {
         match self {
             Question::PointRange => 1,
             Question::BandEnds => 2,
+            Question::AddCount => 3,
+            Question::AddTwice => 3,
+            Question::AddFull => 3,
+            Question::DropNone => 3,
+            Question::LayNone => 3,
+            Question::LayRoom => 3,
             Question::PutCount => 4,
             Question::PutRoom => 4,
             Question::ConvertEmpty => 3,

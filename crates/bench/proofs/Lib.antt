@@ -1,0 +1,5 @@
+pub mod Gaps
+pub mod Places
+pub mod Orders
+pub mod Steps
+pub mod Rowed

@@ -1,0 +1,4 @@
+pub mod Held
+pub mod State
+pub mod Runs
+pub mod Told

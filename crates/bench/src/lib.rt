@@ -1,0 +1,9 @@
+// The bench: holds the points of a sweep, lays the table that they fit, and converts counts by it.
+mod list;
+mod rows;
+pub mod runs;
+pub mod state;
+
+pub use runs::Answer;
+pub use runs::Request;
+pub use state::Bench;
