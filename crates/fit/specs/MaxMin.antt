@@ -21,7 +21,7 @@ unfoldable pub greatest : (ℕ → ℕ) → ℕ → ℕ
 greatest g zero = g 0
 greatest g (suc n) = max (greatest g n) (g (suc n))
 
--- the greatest, over the starts j up to i, of the least, over the ends k from i on, of the best level of points j to k
+-- the greatest, over the starts j up to i, of the least, over the ends k from i on, of the best level of that run
 unfoldable pub max-min : {P : Type 0} → (P → ℕ → ℤ) → ℕ → List P → ℕ → ℕ
 max-min step top ps i = greatest (λ j. least (λ k. best-level step top (part ps j k)) i (length ps - suc i)) i
 

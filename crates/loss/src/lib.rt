@@ -26,7 +26,7 @@ pub trait Loss {
     // What the loss measures, as a reading or a band.
     type Point;
 
-    // The number of fields of a point's line of input.
+    // How many fields such a point takes on a line of input.
     const FIELDS: usize;
 
     ghost cost: { Self → Self·Point → ℕ → ℤ };
