@@ -3,3 +3,4 @@ pub mod Places
 pub mod Orders
 pub mod Steps
 pub mod Rowed
+pub mod Standings

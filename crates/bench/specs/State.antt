@@ -6,6 +6,7 @@ use lib.ListN.{take}
 use Rattle.fit.specs.declared.Entry.{Entry}
 use Rattle.bench.specs.Held.{places-of}
 use Rattle.bench.specs.Runs.{History, Keeps}
+use Rattle.bench.specs.Served.{Standing}
 use Rattle.bench.specs.declared.state.Bench.{Bench}
 
 -- all entries of the lent memory, held or not
@@ -19,3 +20,7 @@ held-of b = take (b .list .held) (now (b .list .entries))
 -- after a run, this bench and a holder with so much room and these rows keep every promise
 abbrev pub Kept : {P : Type 0} → Bench P → ℕ → List (ℕ × ℕ) → History P → Type 0
 Kept b room rs h = Keeps (places-of (memory-of b)) (b .top) room h (held-of b) rs
+
+-- a bench with the rows and bytes of a holder
+abbrev pub standing : {P : Type 0} → Bench P → List (ℕ × ℕ) → List ℕ → Standing P
+standing b rs bs = record { entries = memory-of b; points = held-of b; rows = rs; bytes = bs }
