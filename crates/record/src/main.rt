@@ -1,8 +1,13 @@
-// The first program to run: fits one sweep of a detector under several losses, and prints the record of each fit.
+// Follows a whole task through one run of a bench, and prints each call with its answer and the table. Then lays the
+// same sweep under two other losses.
+mod stop;
+mod task;
+
+use bench::Answer;
+use bench::Bench;
+use bench::Request;
 use fault::Fault;
 use fit::Entry;
-use fit::Misfit;
-use fit::fit;
 use loss::Absolute;
 use loss::AbsoluteLoss;
 use loss::Band;
@@ -14,21 +19,33 @@ use loss::PullLimitLoss;
 use loss::Reading;
 use loss::Squares;
 use loss::SquaresLoss;
-use std::alloc::AllocError;
 use std::alloc::Global;
-use std::alloc::Refused;
-use std::io;
+use stop::Stop;
+use stop::StopFromAlloc;
+use stop::StopFromFault;
+use stop::StopFromIo;
+use stop::StopFromRefused;
+use table::text::TextHolder;
+use table::text::TextTable;
+use task::Step;
+use task::StepDisplay;
+use task::TASK;
+use task::Told;
+use task::ToldDisplay;
 
 // The highest level of the tables.
 const TOP: u16 = 1_000;
 
-// No point pulls harder than this under the limited squares.
-const LIMIT: u32 = 200;
+// The points that a bench has place for.
+const PLACES: usize = 13;
+
+// Bytes for a row of each.
+const BYTES: usize = 195;
 
 // How far a band reaches to either side of what was read.
 const MARGIN: u32 = 3;
 
-// The sweep by rising count: count, level read, weight. The seventh level is far off.
+// The sweep that the task is about: count, level read, weight.
 const SWEEP: [(u32, u32, u32); 12] = [
     (1_000, 12, 10),
     (2_000, 25, 10),
@@ -44,138 +61,106 @@ const SWEEP: [(u32, u32, u32); 12] = [
     (12_000, 118, 10),
 ];
 
-// Why the program stops early.
-#[derive(Drop)]
-enum Stop {
-    Point(Fault),
-    Fit(Misfit),
-    Memory,
-    Print(io::Error),
+// A point made of what was read.
+trait Measured {
+    fn measured(level: u32, weight: u32) -> Result<Self, Fault>;
 }
 
-impl From<Fault> for Stop as StopFromFault {
-    fn from(fault: Fault) -> Stop {
-        Stop::Point(fault)
+impl Measured for Reading as ReadingMeasured {
+    fn measured(level: u32, weight: u32) -> Result<Reading, Fault> {
+        Reading::new(level, weight)
     }
 }
 
-impl From<Misfit> for Stop as StopFromMisfit {
-    fn from(misfit: Misfit) -> Stop {
-        Stop::Fit(misfit)
-    }
-}
-
-impl From<AllocError> for Stop as StopFromAlloc {
-    fn from(_e: AllocError) -> Stop {
-        Stop::Memory
-    }
-}
-
-impl<T: Drop> From<Refused<T>> for Stop as StopFromRefused {
-    fn from(_e: Refused<T>) -> Stop {
-        Stop::Memory
-    }
-}
-
-impl From<io::Error> for Stop as StopFromIo {
-    fn from(error: io::Error) -> Stop {
-        Stop::Print(error)
-    }
-}
-
-// A point as the record has it: what was read, and its weight.
-trait Recorded {
-    fn recorded(&self, heap: Global) -> Result<String, AllocError>;
-}
-
-impl Recorded for Reading as ReadingRecorded {
-    fn recorded(&self, heap: Global) -> Result<String, AllocError> {
-        let level = self.level();
-        let weight = self.weight();
-        format!(heap, "{level:>9} {weight:>7}")
-    }
-}
-
-impl Recorded for Band as BandRecorded {
-    fn recorded(&self, heap: Global) -> Result<String, AllocError> {
-        let low = self.low();
-        let high = self.high();
-        let weight = self.weight();
-        let span = format!(heap, "{low}-{high}")?;
-        format!(heap, "{span:>9} {weight:>7}")
-    }
-}
-
-// The sweep as readings.
-fn readings(heap: Global) -> Result<Vec<Entry<Reading>>, Stop> {
-    let mut entries = Vec::new(heap);
-    for (count, level, weight) in SWEEP {
-        let point = Reading::new(level, weight)?;
-        entries.push(Entry { count, point })?;
-    }
-    Ok(entries)
-}
-
-// The sweep as bands about what was read.
-fn bands(heap: Global) -> Result<Vec<Entry<Band>>, Stop> {
-    let mut entries = Vec::new(heap);
-    for (count, level, weight) in SWEEP {
-        let point = Band::new(
+impl Measured for Band as BandMeasured {
+    fn measured(level: u32, weight: u32) -> Result<Band, Fault> {
+        Band::new(
             level.saturating_sub(MARGIN),
             level.saturating_add(MARGIN),
             weight,
-        )?;
+        )
+    }
+}
+
+// The calls as the bench takes them.
+fn requests(
+    heap: Global,
+    steps: &[Step],
+) -> Result<Vec<Request<Reading, PullLimit<Squares>>>, Stop> {
+    let mut requests = Vec::new(heap);
+    for step in steps {
+        requests.push(step.request()?)?;
+    }
+    Ok(requests)
+}
+
+fn print_table(rt: &LibcRuntime, table: &TextTable<'_>) -> Result<(), Stop> {
+    let text = String::from_utf8_lossy(rt.alloc(), table.text())?;
+    print!(rt, "{text}")?;
+    Ok(())
+}
+
+// The sweep as points of one kind.
+fn sweep<P: Measured + Drop>(heap: Global) -> Result<Vec<Entry<P>>, Stop> {
+    let mut entries = Vec::new(heap);
+    for (count, level, weight) in SWEEP {
+        let point = P::measured(level, weight)?;
         entries.push(Entry { count, point })?;
     }
     Ok(entries)
 }
 
-// Prints each point with the level that it got, and then the table.
-fn print_record<P: Recorded>(
-    rt: &LibcRuntime,
-    entries: &[Entry<P>],
-    levels: &[u16],
-) -> Result<(), Stop> {
-    println!(rt, "   count      read  weight   level")?;
-    for (entry, level) in entries.iter().zip(levels) {
-        let count = entry.count;
-        let point = entry.point.recorded(rt.alloc())?;
-        println!(rt, "{count:>8} {point} {level:>7}")?;
+// Makes the calls of the task, and prints what each answered and the table that stands at the end.
+fn follow(rt: &LibcRuntime) -> Result<(), Stop> {
+    let heap = rt.alloc();
+    let requests = requests(heap, &TASK)?;
+    let mut answers = vec![in heap; Answer::Done; requests.len()]?;
+    let point = Reading::new(0, 1)?;
+    let mut memory = [Entry { count: 0, point }; PLACES];
+    let mut bytes = [0; BYTES];
+    let mut table = TextTable::new(&mut bytes);
+    Bench::open(&mut memory, TOP).run(&mut table, &requests, &mut answers);
+    for (step, answer) in TASK.iter().zip(&answers) {
+        let told = Told(*answer);
+        println!(rt, "{step}: {told}")?;
     }
     println!(rt, "table")?;
-    for (entry, level) in entries.iter().zip(levels) {
-        let count = entry.count;
-        println!(rt, "{count} {level}")?;
-    }
-    println!(rt)?;
-    Ok(())
+    print_table(rt, &table)
 }
 
-// Fits the entries under a loss, and prints the record under a heading.
-fn record<L: Loss>(
+// Adds points to a bench of their own, lays them under a loss, and prints the table.
+fn lay_under<L: Loss>(
     rt: &LibcRuntime,
     heading: &str,
     loss: &L,
-    entries: &[Entry<L::Point>],
+    points: &[Entry<L::Point>],
 ) -> Result<(), Stop>
 where
-    L::Point: Recorded,
+    L::Point: Copy,
 {
-    let mut levels = vec![in rt.alloc(); 0; entries.len()]?;
-    fit(loss, entries, TOP, &mut levels)?;
+    let mut memory = Vec::new(rt.alloc());
+    for entry in points {
+        memory.push(*entry)?;
+    }
+    let mut bench = Bench::open(&mut memory, TOP);
+    for entry in points {
+        bench.add(entry.count, entry.point)?;
+    }
+    let mut bytes = [0; BYTES];
+    let mut table = TextTable::new(&mut bytes);
+    bench.lay(loss, &mut table)?;
     println!(rt, "{heading}")?;
-    print_record(rt, entries, &levels)
+    print_table(rt, &table)
 }
 
 fn run(rt: &LibcRuntime) -> Result<(), Stop> {
-    let read = readings(rt.alloc())?;
-    record(rt, "squares", &Squares, &read)?;
-    record(rt, "absolute", &Absolute, &read)?;
-    let limited = format!(rt.alloc(), "squares, no pull above {LIMIT}")?;
-    record(rt, &limited, &PullLimit::new(Squares, LIMIT), &read)?;
-    let wide = format!(rt.alloc(), "bands, {MARGIN} to either side")?;
-    let spans = bands(rt.alloc())?;
-    record(rt, &wide, &Bands, &spans)
+    follow(rt)?;
+    let heap = rt.alloc();
+    let readings = sweep::<Reading>(heap)?;
+    lay_under(rt, "table, absolute", &Absolute, &readings)?;
+    let wide = format!(heap, "table, bands {MARGIN} to either side")?;
+    let bands = sweep::<Band>(heap)?;
+    lay_under(rt, &wide, &Bands, &bands)
 }
 
 fn main(rt: LibcRuntime) -> Result<(), Stop> {
