@@ -3,6 +3,8 @@ mod list;
 mod rows;
 pub mod runs;
 pub mod state;
+#[cfg(test)]
+mod tests;
 
 pub use runs::Answer;
 pub use runs::Request;
