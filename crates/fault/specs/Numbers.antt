@@ -1,7 +1,7 @@
 -- Each question's number and layer. Assumes nothing.
 use Prim.Native.Nat.{ℕ}
 use Rattle.fault.specs.declared.Question.{Question}
-use Rattle.fault.specs.declared.Question.the-variants.{PointRange, BandEnds, AddCount, AddTwice, AddFull, DropNone, LayNone, LayRoom, PutCount, PutRoom, ConvertEmpty, ConvertBelow, ConvertAbove, ConvertFalls}
+use Rattle.fault.specs.declared.Question.the-variants.{PointRange, BandEnds, AddCount, AddTwice, AddFull, DropNone, LayNone, LayRoom, PutCount, PutRoom, OpenLength, OpenSums, OpenLayout, OpenOrder, ConvertEmpty, ConvertBelow, ConvertAbove, ConvertFalls}
 use Rattle.fault.specs.declared.Fault.{Fault}
 
 abbrev pub number-of : Question → ℕ
@@ -15,6 +15,10 @@ number-of LayNone = 5
 number-of LayRoom = 6
 number-of PutCount = 1
 number-of PutRoom = 11
+number-of OpenLength = 12
+number-of OpenSums = 13
+number-of OpenLayout = 14
+number-of OpenOrder = 15
 number-of ConvertEmpty = 7
 number-of ConvertBelow = 8
 number-of ConvertAbove = 9
@@ -32,6 +36,10 @@ layer-of LayNone = 3
 layer-of LayRoom = 3
 layer-of PutCount = 4
 layer-of PutRoom = 4
+layer-of OpenLength = 4
+layer-of OpenSums = 4
+layer-of OpenLayout = 4
+layer-of OpenOrder = 4
 layer-of ConvertEmpty = 3
 layer-of ConvertBelow = 3
 layer-of ConvertAbove = 3

@@ -25,6 +25,14 @@ pub enum Question {
     PutCount,
     // Has the holder fewer rows than its capacity?
     PutRoom,
+    // Are the bytes to open whole blocks, and no more than a full table takes?
+    OpenLength,
+    // Are both sums of the block right?
+    OpenSums,
+    // Is the rest of the block as it is laid out, with at most 1,024 rows up to its end?
+    OpenLayout,
+    // Do counts in range rise, and levels never fall, from each row to the next?
+    OpenOrder,
     // Is there a row to convert by?
     ConvertEmpty,
     // Is the count to convert at least that of row 0?
@@ -51,6 +59,10 @@ impl Question {
             Question::LayRoom => 6,
             Question::PutCount => 1,
             Question::PutRoom => 11,
+            Question::OpenLength => 12,
+            Question::OpenSums => 13,
+            Question::OpenLayout => 14,
+            Question::OpenOrder => 15,
             Question::ConvertEmpty => 7,
             Question::ConvertBelow => 8,
             Question::ConvertAbove => 9,
@@ -73,6 +85,10 @@ impl Question {
             Question::LayRoom => 3,
             Question::PutCount => 4,
             Question::PutRoom => 4,
+            Question::OpenLength => 4,
+            Question::OpenSums => 4,
+            Question::OpenLayout => 4,
+            Question::OpenOrder => 4,
             Question::ConvertEmpty => 3,
             Question::ConvertBelow => 3,
             Question::ConvertAbove => 3,
