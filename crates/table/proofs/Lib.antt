@@ -7,3 +7,5 @@ pub mod Tables
 pub mod Reading
 pub mod Laid
 pub mod Items
+pub mod Sums
+pub mod Blocks

@@ -2,3 +2,4 @@ pub mod Rows
 pub mod Convert
 pub mod Text
 pub mod Lent
+pub mod Binary
