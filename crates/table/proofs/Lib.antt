@@ -9,3 +9,4 @@ pub mod Laid
 pub mod Items
 pub mod Sums
 pub mod Blocks
+pub mod Stacked

@@ -3,3 +3,4 @@ pub mod Convert
 pub mod Text
 pub mod Lent
 pub mod Binary
+pub mod Held

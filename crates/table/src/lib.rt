@@ -1,4 +1,5 @@
 // Tables: rows of a count and a level, the holders that keep them, and the conversion of counts by them.
+pub mod binary;
 mod block;
 pub mod convert;
 mod digits;
