@@ -10,3 +10,7 @@ pub mod Items
 pub mod Sums
 pub mod Blocks
 pub mod Stacked
+pub mod Same
+pub mod Order
+pub mod Asks
+pub mod Opens

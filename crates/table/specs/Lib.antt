@@ -4,3 +4,5 @@ pub mod Text
 pub mod Lent
 pub mod Binary
 pub mod Held
+pub mod Opening
+pub mod Opened

@@ -4,6 +4,7 @@ mod block;
 pub mod convert;
 mod digits;
 pub mod holder;
+pub mod opening;
 #[cfg(test)]
 mod tests;
 pub mod text;
