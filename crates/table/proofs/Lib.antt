@@ -14,3 +14,5 @@ pub mod Same
 pub mod Order
 pub mod Asks
 pub mod Opens
+pub mod OnlyThat
+pub mod ReadsBack

@@ -21,7 +21,7 @@ use Rattle.table.proofs.Found.{first-reaches, first-mono}
 use Rattle.table.proofs.Lines.{part-le, quotient-mono}
 
 -- an accepted call had each question answered yes
-yes-all : {X : Type 0} (b : Bool) (r : Result X Fault) (e : Fault) (x : X) → cond b r (Err e) ≡ Ok x → (b ≡ true) × (r ≡ Ok x)
+pub yes-all : {X : Type 0} (b : Bool) (r : Result X Fault) (e : Fault) (x : X) → cond b r (Err e) ≡ Ok x → (b ≡ true) × (r ≡ Ok x)
 yes-all true r e x h = (refl, h)
 yes-all false r e x h = let z : _≡_ {A = ℕ} 0 1 = cc in absurd (omega arith)
 

@@ -50,6 +50,10 @@ length-stack rs a (suc n) =
       length-stack rs (a + 1) n,
     )
 
+pub length-binary : (rs : List (ℕ × ℕ)) → length (binary-bytes rs) ≡ 512 * block-count (length rs)
+unfolding binary-bytes
+length-binary rs = length-stack rs 0 (block-count (length rs))
+
 -- the full blocks of a table, which are all of it or all but the last
 pub full-blocks : (rs : List (ℕ × ℕ)) → take (512 * (length rs / 62)) (binary-bytes rs) ≡ joined (block-of rs) (counting 0 (length rs / 62))
 unfolding binary-bytes

@@ -13,8 +13,8 @@ pub use calls::open;
 // The rows that were found.
 #[derive(Drop)]
 pub struct OpenRows {
-    rows: [Row; MAX_ROWS],
-    len: usize,
+    pub(crate) rows: [Row; MAX_ROWS],
+    pub(crate) len: usize,
     ghost places: { length rows ≡ 1024 },
     ghost few: { len ≤ 1024 },
 }

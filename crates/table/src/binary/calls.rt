@@ -8,6 +8,7 @@ use crate::holder::Holder;
 use crate::holder::MAX_COUNT;
 use crate::holder::MAX_ROWS;
 use crate::holder::Row;
+use crate::opening::open;
 use fault::Fault;
 use fault::Question;
 ghost use mathlib.Core.Path.{_≡_};
@@ -15,6 +16,8 @@ ghost use mathlib.Core.List.{[], _∷_, _++_};
 ghost use Prim.Native.Nat.{_<_, _≤_};
 ghost use lib.ListN.{length};
 ghost use Rattle.table.specs.Binary.{binary-bytes, binary-room, binary-extended};
+ghost use Rattle.table.specs.Opening.{opened};
+ghost use Rattle.table.specs.Opened.{rows-or-none};
 ghost use Rattle.table.specs.Held.{binary-rows, binary-memory, binary-bounded, binary-within};
 
 impl<'a> BinaryTable<'a> {
@@ -27,6 +30,23 @@ impl<'a> BinaryTable<'a> {
             page: Memory { bytes },
             rows: [(0, 0); MAX_ROWS],
             len: 0,
+        }
+    }
+
+    // The table that the bytes are, or one with no rows where they are none. Puts go on behind its
+    // last row.
+    pub fn reopen(bytes: &'a mut [u8]) -> BinaryTable<'a>
+        ensures rows { λ r. ⌜ binary-rows r ≡ rows-or-none (opened (now (bytes .entry))) ⌝ }
+        ensures bytes { λ r. ⌜ binary-memory r ≡ now (bytes .entry) ⌝ }
+    {
+        let Ok(found) = open(bytes) else {
+            return BinaryTable::new(bytes);
+        };
+        let rows = found.rows;
+        BinaryTable {
+            page: Memory { bytes },
+            rows,
+            len: found.len,
         }
     }
 

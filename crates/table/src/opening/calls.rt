@@ -16,7 +16,7 @@ ghost use mathlib.Core.List.{[], _∷_, _++_};
 ghost use Prim.Native.Nat.{_+_, _*_, _<_, _≤_};
 ghost use lib.ListN.{length};
 ghost use Rattle.std.specs.declared.result.Result.the-variants.{Ok};
-ghost use Rattle.table.specs.Opening.{rows-read, block-rows, block-answer, opened};
+ghost use Rattle.table.specs.Opening.{rows-read, block-rows, block-answer, opened, Reads-back, Only-that};
 ghost use Rattle.table.specs.Opened.{open-rows, rows-answered};
 
 // The longest table: 17 blocks.
@@ -99,8 +99,13 @@ impl OpenRows {
 }
 
 // The rows of a binary table, or the first question that refuses its bytes.
+//
+// Rows that rise come back as they were written, and no other bytes than those that writing gives
+// are accepted.
 pub fn open(bytes: &[u8]) -> Result<OpenRows, Fault>
-    ensures { λ r. ⌜ rows-answered r ≡ opened (now (bytes .entry)) ⌝ }
+    ensures answer { λ r. ⌜ rows-answered r ≡ opened (now (bytes .entry)) ⌝ }
+    ensures back { λ _. ⌜ Reads-back ⌝ }
+    ensures only { λ _. ⌜ Only-that ⌝ }
 {
     if bytes.len() % BLOCK_BYTES != 0 || bytes.len() > MAX_BYTES {
         return Err(Fault::plain(Question::OpenLength));
