@@ -1,28 +1,29 @@
 -- Rows that were written are read back. Assumes nothing.
-use mathlib.Core.Bool.{Bool, true, false, _&&_}
+use mathlib.Core.Bool.{Bool, true, false}
 use mathlib.Core.List.{List, [], _∷_, _++_}
 use mathlib.Core.Logic.{_⊎_, inl, inr, ⊎-elim}
 use mathlib.Core.Path.{_≡_, refl, sym, ap, _∙_}
 use Prim.Native.Nat.{ℕ, zero, suc, _+_, _-_, _*_, _/_, _%_, _≤_, _<_}
 use native.Mathlib.Omega.{arith}
-use lib.Dec.{leb}
 use lib.ListN.{length, getD, take, drop, replicate}
 use Rattle.std.specs.Iters.{counting}
 use Rattle.std.specs.Results.{andOther}
 use Rattle.std.specs.declared.result.Result.the-variants.{Ok}
 use Rattle.std.specs.shelf.Lists.{joined}
 use Rattle.std.proofs.shelf.Equals.{sameBytes-decides}
-use Rattle.std.proofs.shelf.Lists.{append-assoc, append-nil, length-append, length-take, length-drop, take-append-drop, take-at, drop-at, nil-from-length}
+use Rattle.std.proofs.shelf.Lists.{append-assoc, append-nil, length-append, length-take, length-drop, take-append-drop, take-at, drop-at, nil-from-length, length-push}
 use Rattle.std.proofs.shelf.Tests.{cases-eq, cond-true, cond-false, le-leb, eq-eqb, and-from, or-left, or-right}
-use Rattle.table.specs.Rows.{count-at, level-at}
+use Rattle.table.specs.Rows.{count-at, level-at, bytes-after}
 use Rattle.table.specs.Convert.{Rising}
-use Rattle.table.specs.Binary.{row-bytes, block-places, block-body, sum-bytes, block-bytes, rows-of-block, block-count, binary-bytes}
+use Rattle.table.specs.Text.{over}
+use Rattle.table.specs.Binary.{row-bytes, block-places, block-body, sum-bytes, block-bytes, rows-of-block, block-count, binary-bytes, binary-room, binary-extended}
 use Rattle.table.specs.Opening.{rows-read, block-rows, row-after, least-after, row-follows, first-stray, sums-right, count-right, body-right, block-answer, opened-from, opened, Orderable, Reads-back}
 use Rattle.table.proofs.Asks.{answer-taken}
 use Rattle.table.proofs.Blocks.{length-body}
 use Rattle.table.proofs.Opens.{opened-whole}
 use Rattle.table.proofs.Order.{least-join}
-use Rattle.table.proofs.Stacked.{block-of, length-block-of, length-stack}
+use Rattle.table.proofs.Stacked.{block-of, length-block-of, length-stack, blocks-more}
+use Rattle.table.proofs.Written.{length-over}
 
 -- counts and levels that their bytes have room for
 abbrev Low : List (ℕ × ℕ) → Type 0
@@ -137,9 +138,9 @@ back all (suc n) k done rest e before least most few low order =
     (omega arith) (omega arith) few (lows .1)
     (ap (λ l. first-stray l later) (least-join (0, 0) done new) ∙ orders .1))
 
-pub reads-back : Reads-back
+blocks-back : (rs : List (ℕ × ℕ)) → Orderable rs → opened (binary-bytes rs) ≡ Ok rs
 unfolding binary-bytes
-reads-back rs o =
+blocks-back rs o =
     let n = block-count (length rs) in
     let bytes = joined (block-of rs) (counting 0 n) in
     let long : length bytes ≡ 512 * n = length-stack rs 0 n in
@@ -148,3 +149,20 @@ reads-back rs o =
     ∙ back rs n 0 [] rs refl (λ h. refl) (omega arith) (omega arith) (o .few)
     (low-from rs (o .counts) (o .levels))
     (in-order (0, 0) rs (λ i h. (omega arith, omega arith)) (o .rising) (o .counts)))
+
+-- rows put one by one behind those before leave the blocks of all of them
+put-blocks : (bs : List ℕ) (before rs : List (ℕ × ℕ)) → length before + length rs ≤ binary-room bs → take (512 * block-count (length before)) bs ≡ binary-bytes before → take (512 * block-count (length (before ++ rs))) (bytes-after binary-extended bs before rs) ≡ binary-bytes (before ++ rs)
+put-blocks bs before [] room e = ap (λ (xs : List (ℕ × ℕ)). take (512 * block-count (length xs)) bs) (append-nil before) ∙ (e ∙ ap binary-bytes (sym (append-nil before)))
+put-blocks bs before (r ∷ rs) room e =
+    let k = length before / 62 in
+    let block = block-of (before ++ (r ∷ [])) k in
+    let new = over bs (512 * k) block in
+    let wide = length-block-of (before ++ (r ∷ [])) k in
+    let kept : length new ≡ length bs = length-over bs (512 * k) block (omega (arith, wide)) in
+    let one = append-assoc before (r ∷ []) rs in
+    ap (λ (xs : List (ℕ × ℕ)). take (512 * block-count (length xs)) (bytes-after binary-extended new (before ++ (r ∷ [])) rs)) (sym one)
+    ∙ (put-blocks new (before ++ (r ∷ [])) rs (omega (arith, length-push before r, kept)) (blocks-more bs before r (omega arith) e) ∙ ap binary-bytes one)
+
+pub reads-back : Reads-back
+unfolding binary-bytes
+reads-back bs rs o room = ap opened (put-blocks bs [] rs (omega arith) refl) ∙ blocks-back rs o

@@ -13,9 +13,9 @@ use Rattle.fault.specs.declared.Question.{Question}
 use Rattle.fault.specs.declared.Question.the-variants.{OpenLength, OpenSums, OpenLayout, OpenOrder}
 use Rattle.fault.specs.declared.Fault.{Fault}
 use Rattle.fault.specs.Numbers.{outside-text}
-use Rattle.table.specs.Rows.{count-at, level-at}
+use Rattle.table.specs.Rows.{count-at, level-at, bytes-after}
 use Rattle.table.specs.Convert.{Rising}
-use Rattle.table.specs.Binary.{block-body, sum-bytes, binary-bytes}
+use Rattle.table.specs.Binary.{block-body, sum-bytes, block-count, binary-bytes, binary-room, binary-extended}
 
 -- the row in the first bytes, and so many rows one behind another
 abbrev pub row-read : List ℕ → ℕ × ℕ
@@ -96,9 +96,10 @@ pub record Orderable (rs : List (ℕ × ℕ)) : Type 0 where
   pub counts : (i : ℕ) → i < length rs → count-at rs i ≤ 16777215
   pub levels : (i : ℕ) → i < length rs → level-at rs i ≤ 65535
 
--- what was written is read back
+-- what is put, row by row, into memory that has room for it is read back from the blocks in use
 abbrev pub Reads-back : Type 0
-Reads-back = (rs : List (ℕ × ℕ)) → Orderable rs → opened (binary-bytes rs) ≡ Ok rs
+Reads-back =
+    (bs : List ℕ) (rs : List (ℕ × ℕ)) → Orderable rs → length rs ≤ binary-room bs → opened (take (512 * block-count (length rs)) (bytes-after binary-extended bs [] rs)) ≡ Ok rs
 
 -- nothing but what would be written is accepted
 abbrev pub Only-that : Type 0
