@@ -3,11 +3,11 @@ use mathlib.Core.List.{List, [], _∷_, _++_}
 use mathlib.Core.Path.{_≡_, refl, sym, ap, _∙_}
 use Prim.Native.Nat.{ℕ, _+_, _-_, _*_, _≤_, _<_}
 use native.Mathlib.Omega.{arith}
-use lib.ListN.{length, getD, take, drop, replicate}
+use lib.ListN.{length, getD, take, replicate}
 use Rattle.std.specs.shelf.Lists.{joined}
 use Rattle.std.proofs.shelf.Lists.{append-nil, length-append, length-replicate, take-more, drop-replicate, joined-more}
 use Rattle.table.specs.Text.{over}
-use Rattle.table.specs.Binary.{row-bytes, block-head, block-places, block-body, sum-bytes, block-bytes}
+use Rattle.table.specs.Binary.{row-bytes, block-places, block-body, sum-bytes, block-bytes}
 use Rattle.table.proofs.Written.{over-join}
 
 pub length-rows : (rs : List (ℕ × ℕ)) → length (joined row-bytes rs) ≡ 8 * length rs

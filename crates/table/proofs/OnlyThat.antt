@@ -1,11 +1,11 @@
 -- Bytes that are accepted are what writing their rows gives. Assumes nothing.
-use mathlib.Core.Bool.{true}
+use mathlib.Core.Bool.{true, _&&_, _||_}
 use mathlib.Core.List.{List, [], _++_}
 use mathlib.Core.Logic.{_⊎_, inl, inr, ⊎-elim}
-use mathlib.Core.Path.{_≡_, refl, sym, ap, _∙_}
+use mathlib.Core.Path.{_≡_, refl, sym, ap, subst, _∙_}
 use Prim.Native.Nat.{ℕ, zero, suc, _+_, _*_, _/_, _%_, _≤_, _<_}
 use native.Mathlib.Omega.{arith}
-use lib.Dec.{eqb}
+use lib.Dec.{leb, eqb}
 use lib.ListN.{length, getD, take, drop}
 use Rattle.std.specs.Iters.{counting}
 use Rattle.std.specs.Results.{andOther}
@@ -17,7 +17,7 @@ use Rattle.std.proofs.shelf.Lists.{append-assoc, append-nil, length-append, len
 use Rattle.std.proofs.shelf.Tests.{and-parts, or-cases, leb-true, eqb-true}
 use Rattle.fault.specs.declared.Fault.{Fault}
 use Rattle.table.specs.Binary.{block-body, sum-bytes, block-bytes, rows-of-block, block-count, binary-bytes}
-use Rattle.table.specs.Opening.{block-rows, sums-right, body-right, block-answer, opened-from, opened, Only-that}
+use Rattle.table.specs.Opening.{block-rows, sums-right, count-right, body-right, block-answer, opened-from, opened, Only-that}
 use Rattle.table.proofs.Asks.{length-rows-read}
 use Rattle.table.proofs.Rises.{yes-all}
 use Rattle.table.proofs.Stacked.{block-of}
@@ -34,26 +34,33 @@ pub record Taken (left k : ℕ) (b : List ℕ) : Type 0 where
   pub few : length (block-rows b) ≤ 62
   pub full : (left ≡ 0) ⊎ (length (block-rows b) ≡ 62)
 
+count-parts : (left before n : ℕ) → count-right left before n ≡ true → (1 ≤ n) × (n ≤ 62) × ((left ≡ 0) ⊎ (n ≡ 62))
+count-parts left before n e =
+    let least = and-parts (leb 1 n) (leb n 62 && ((eqb left 0 || eqb n 62) && leb (before + n) 1024)) e in
+    let most = and-parts (leb n 62) ((eqb left 0 || eqb n 62) && leb (before + n) 1024) (least .1) in
+    let last = and-parts (eqb left 0 || eqb n 62) (leb (before + n) 1024) (most .1) in (
+      leb-true 1 n (least .0),
+      leb-true n 62 (most .0),
+      ⊎-elim
+          (λ (none : eqb left 0 ≡ true). inl (eqb-true left 0 none))
+          (λ (all : eqb n 62 ≡ true). inr (eqb-true n 62 all))
+          (or-cases (eqb left 0) (eqb n 62) (last .0)),
+    )
+
 pub taken : (left k : ℕ) (rs : List (ℕ × ℕ)) (b : List ℕ) → block-answer left k rs b ≡ Ok tt → Taken left k b
 unfolding block-answer sums-right body-right block-bytes
 taken left k rs b e =
     let sums = yes-all _ _ _ tt e in
     let layout = and-parts _ _ (yes-all _ _ _ tt (sums .1) .0) in
-    let count = and-parts _ _ (layout .0) in
-    let most = and-parts _ _ (count .1) in
-    let last = and-parts _ _ (most .1) in
-    let n = length-rows-read (getD b 2 0) (drop 8 b) in
+    let n : getD b 2 0 ≡ length (block-rows b) = sym (length-rows-read (getD b 2 0) (drop 8 b)) in
+    let parts = subst (λ m. (1 ≤ m) × (m ≤ 62) × ((left ≡ 0) ⊎ (m ≡ 62))) n (count-parts left (length rs) (getD b 2 0) (layout .0)) in
     let body : take 508 b ≡ block-body k (block-rows b) = sameBytes-decides (take 508 b) (block-body k (block-rows b)) .0 (layout .1) in
     let ends : drop 508 b ≡ sum-bytes (take 508 b) = sameBytes-decides (drop 508 b) (sum-bytes (take 508 b)) .0 (sums .0) in
     record {
       bytes = sym (take-append-drop 508 b) ∙ (λ i. body i ++ (ends ∙ ap sum-bytes body) i);
-      some = omega (arith, n, leb-true 1 (getD b 2 0) (count .0));
-      few = omega (arith, n, leb-true (getD b 2 0) 62 (most .0));
-      full =
-          ⊎-elim
-          (λ (none : eqb left 0 ≡ true). inl (eqb-true left 0 none))
-          (λ (all : eqb (getD b 2 0) 62 ≡ true). inr (n ∙ eqb-true (getD b 2 0) 62 all))
-          (or-cases _ _ (last .0));
+      some = parts .0;
+      few = parts .1;
+      full = parts .2;
     }
 
 -- what is known of n blocks from block k on, behind the rows rs, that end up as all rows
@@ -107,12 +114,15 @@ all-known (suc n) k rs all bs long before e =
       most = sized .1;
     }
 
+whole-length : (bs : List ℕ) → length bs % 512 ≡ 0 → length bs ≡ 512 * (length bs / 512)
+whole-length bs e = omega arith
+
 pub only-that : Only-that
 unfolding opened binary-bytes
 only-that bs rs e =
     let q = yes-all _ _ _ rs e in
-    let whole = and-parts _ _ (q .0) in
+    let whole = eqb-true (length bs % 512) 0 (and-parts _ _ (q .0) .0) in
     let n = length bs / 512 in
-    let kept = all-known n 0 [] rs bs (omega (arith, eqb-true (length bs % 512) 0 (whole .0))) (λ h. refl) (q .1) in
+    let kept = all-known n 0 [] rs bs (whole-length bs whole) (λ h. refl) (q .1) in
     let blocks : n ≡ block-count (length rs) = omega (arith, ap length (kept .rows), kept .least, kept .most) in
     kept .bytes ∙ ap (λ m. joined (block-of rs) (counting 0 m)) blocks

@@ -1,14 +1,12 @@
 -- Rows read one behind another, and where their order breaks. Assumes nothing.
-use mathlib.Core.Bool.{Bool, true, false}
+use mathlib.Core.Bool.{true, false}
 use mathlib.Core.List.{List, [], _∷_, _++_}
 use mathlib.Core.Path.{_≡_, refl, sym, ap, _∙_}
 use Prim.Native.Nat.{ℕ, zero, suc, _+_, _-_, _*_, _≤_, _<_}
-use native.Mathlib.Numerals.{add-one}
 use native.Mathlib.Omega.{arith}
-use lib.Dec.{ltb}
 use lib.ListN.{length, getD, take, drop}
-use Rattle.std.proofs.shelf.Lists.{take-more, take-all, getD-read, drop-drop, drop-more}
-use Rattle.std.proofs.shelf.Tests.{cond-true, cond-false, ltb-false}
+use Rattle.std.proofs.shelf.Lists.{take-more, take-all, drop-drop, drop-more}
+use Rattle.std.proofs.shelf.Tests.{cond-true, cond-false}
 use Rattle.table.specs.Opening.{row-read, rows-read, row-after, least-after, row-follows, first-stray}
 
 pub least-none : (rs : List (ℕ × ℕ)) → length rs ≤ 0 → (0, 0) ≡ least-after (0, 0) rs

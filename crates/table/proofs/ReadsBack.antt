@@ -17,7 +17,7 @@ use Rattle.table.specs.Rows.{count-at, level-at, bytes-after}
 use Rattle.table.specs.Convert.{Rising}
 use Rattle.table.specs.Text.{over}
 use Rattle.table.specs.Binary.{row-bytes, block-places, block-body, sum-bytes, block-bytes, rows-of-block, block-count, binary-bytes, binary-room, binary-extended}
-use Rattle.table.specs.Opening.{rows-read, block-rows, row-after, least-after, row-follows, first-stray, sums-right, count-right, body-right, block-answer, opened-from, opened, Orderable, Reads-back}
+use Rattle.table.specs.Opening.{rows-read, block-rows, row-after, least-after, row-follows, first-stray, sums-right, body-right, block-answer, opened-from, opened, Orderable, Reads-back}
 use Rattle.table.proofs.Asks.{answer-taken}
 use Rattle.table.proofs.Blocks.{length-body}
 use Rattle.table.proofs.Opens.{opened-whole}

@@ -1,13 +1,12 @@
 -- A comparison of bytes as a test, and the parts of a block's body. Assumes nothing.
 use mathlib.Core.Bool.{Bool, true, false, _&&_}
-use mathlib.Core.List.{List, [], _∷_, _++_, map}
+use mathlib.Core.List.{List, [], _∷_, _++_}
 use mathlib.Core.Path.{_≡_, refl, sym, ap, subst, _∙_}
 use Prim.Native.Nat.{ℕ, _+_, _*_, _≤_}
 use native.Mathlib.Nat.{add-zero}
 use native.Mathlib.Omega.{arith}
 use borrow.Author.Needs.{needs}
 use lib.ListN.{length, getD, take, drop}
-use Rattle.std.specs.Iters.{counting}
 use Rattle.std.specs.Orderings.{Decides}
 use Rattle.std.specs.shelf.Text.{sameBytes}
 use Rattle.std.proofs.shelf.Counted.{fill-by-all}
@@ -15,7 +14,6 @@ use Rattle.std.proofs.shelf.Equals.{sameBytes-decides}
 use Rattle.std.proofs.shelf.Lists.{length-take-le, getD-take, getD-drop, take-append-drop, take-take, drop-take, take-at, drop-at}
 use Rattle.table.specs.Binary.{block-head, block-places, block-body}
 use Rattle.table.specs.Opening.{row-read, body-right}
-use Rattle.table.proofs.Blocks.{length-places}
 
 pub same-as : (xs ys us vs : List ℕ) (r : Bool) → Decides r (xs ≡ ys) → xs ≡ us → ys ≡ vs → r ≡ sameBytes us vs
 same-as xs ys us vs r d p q =

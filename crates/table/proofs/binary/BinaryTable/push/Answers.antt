@@ -6,7 +6,7 @@ use borrow.Author.Needs.{needs}
 use lib.ListN.{length, take, drop, set}
 use Rattle.std.proofs.shelf.Lists.{length-take-le, length-set, length-push, take-more-set, take-set}
 use Rattle.table.specs.Text.{over}
-use Rattle.table.specs.Binary.{block-bytes, block-count, binary-bytes, rows-of-block}
+use Rattle.table.specs.Binary.{block-bytes, block-count, binary-bytes}
 use Rattle.table.proofs.Written.{length-over}
 use Rattle.table.proofs.Stacked.{block-of, length-block-of, last-rows, blocks-more}
 use Rattle.table.proofs.binary.BinaryTable.push.Needs as need

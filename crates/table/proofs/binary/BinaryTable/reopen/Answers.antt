@@ -1,7 +1,7 @@
 use mathlib.Core.Path.{_≡_, sym, ap, _∙_}
 use Prim.Native.Nat.{_*_}
 use native.Mathlib.Omega.{arith}
-use lib.ListN.{length, take}
+use lib.ListN.{length}
 use Rattle.std.proofs.shelf.Lists.{length-take-le, take-all}
 use Rattle.table.specs.Binary.{block-count, binary-bytes}
 use Rattle.table.specs.Opened.{open-rows}

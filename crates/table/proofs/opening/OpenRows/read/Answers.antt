@@ -2,7 +2,7 @@ use mathlib.Core.List.{_∷_, [], _++_}
 use mathlib.Core.Path.{sym, ap, _∙_}
 use Prim.Native.Nat.{_*_}
 use native.Mathlib.Omega.{arith}
-use lib.ListN.{take, drop}
+use lib.ListN.{drop}
 use Rattle.std.proofs.shelf.Lists.{append-assoc, take-more-set}
 use Rattle.table.specs.Opening.{row-read, rows-read}
 use Rattle.table.specs.Opened.{open-rows}
