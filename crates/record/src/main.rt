@@ -25,6 +25,10 @@ use stop::StopFromAlloc;
 use stop::StopFromFault;
 use stop::StopFromIo;
 use stop::StopFromRefused;
+use table::binary::BinaryHolder;
+use table::binary::BinaryTable;
+use table::holder::Holder;
+use table::opening::open;
 use table::text::TextHolder;
 use table::text::TextTable;
 use task::Step;
@@ -41,6 +45,9 @@ const PLACES: usize = 13;
 
 // Bytes for a row of each.
 const BYTES: usize = 195;
+
+// A block of a binary table, which has room for all rows.
+const BLOCK: usize = 512;
 
 // How far a band reaches to either side of what was read.
 const MARGIN: u32 = 3;
@@ -110,6 +117,28 @@ fn sweep<P: Measured + Drop>(heap: Global) -> Result<Vec<Entry<P>>, Stop> {
     Ok(entries)
 }
 
+// Writes the rows of a table in binary, opens the bytes again, and says what came of it.
+fn keep_binary(rt: &LibcRuntime, table: &TextTable<'_>) -> Result<(), Stop> {
+    let mut bytes = [0; BLOCK];
+    let mut binary = BinaryTable::new(&mut bytes);
+    for i in 0..table.len() {
+        if let Some((count, level)) = table.row(i) {
+            binary.put(count, level)?;
+        }
+    }
+    let written = binary.blocks().len();
+    let opened = open(binary.blocks())?;
+    let mut same = opened.rows().len() == table.len();
+    for (i, row) in opened.rows().iter().enumerate() {
+        same = same && table.row(i) == Some(*row);
+    }
+    println!(
+        rt,
+        "binary: {written} bytes, opened again with the same rows: {same}"
+    )?;
+    Ok(())
+}
+
 // Makes the calls of the task, and prints what each answered and the table that stands at the end.
 fn follow(rt: &LibcRuntime) -> Result<(), Stop> {
     let heap = rt.alloc();
@@ -125,7 +154,8 @@ fn follow(rt: &LibcRuntime) -> Result<(), Stop> {
         println!(rt, "{step}: {told}")?;
     }
     println!(rt, "table")?;
-    print_table(rt, &table)
+    print_table(rt, &table)?;
+    keep_binary(rt, &table)
 }
 
 // Adds points to a bench of their own, lays them under a loss, and prints the table.
