@@ -1,4 +1,6 @@
 // The bench: holds the points of a sweep, lays the table that they fit, and converts counts by it.
+#![tactic(auto)]
+
 mod list;
 mod rows;
 pub mod runs;

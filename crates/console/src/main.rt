@@ -1,4 +1,6 @@
 // Answers the script of its standard input: a line for each line, and at the end the rows of the table.
+#![tactic(auto)]
+
 mod stop;
 
 use answers::console::{MAX_INPUT, console};

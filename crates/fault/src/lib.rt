@@ -1,4 +1,6 @@
 // What a refusal says: which question was answered no, and where in the text it was asked.
+#![tactic(auto)]
+
 ghost use Rattle.std.specs.Prelude.{◌≡◌};
 ghost use Rattle.fault.specs.Numbers.{number_of, layer_of, outside_text};
 

@@ -1,4 +1,6 @@
 // The fit: pools points, taken by rising count, into the cheapest table of levels that never falls.
+#![tactic(auto)]
+
 ghost use Rattle.std.specs.Prelude.{◌≡◌, ◌+◌, ◌-◌, ◌<◌, ◌≤◌, true, ◌∷◌, ◌++◌, length, take, drop, replicate, is_ok, if◌then◌else◌};
 ghost use Rattle.fit.specs.Best.{summed_step, first_up};
 ghost use Rattle.fit.specs.Calls.{fit_answer};

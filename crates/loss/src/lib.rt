@@ -1,4 +1,6 @@
 // What a level costs a point: the trait that every loss keeps, and the losses of the bench.
+#![tactic(auto)]
+
 ghost use Rattle.std.specs.Prelude.{◌≡◌, ℕ, suc, ◌^◌, ◌<◌, ℤ, pos, ◌+ℤ◌, neg_ℤ, ◌≤ℤ◌};
 
 pub mod limit;

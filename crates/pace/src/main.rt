@@ -1,6 +1,8 @@
 // Makes the calls of a bench on made-up points and prints a checksum of what each kind comes to: adds in three orders, a
 // lay into a text table, and conversions. Called with the words `time N` it makes them N times, and prints the
 // nanoseconds of one call too.
+#![tactic(auto)]
+
 mod stop;
 
 use bench::Bench;

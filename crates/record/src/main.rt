@@ -1,5 +1,7 @@
 // Follows a whole task through one run of a bench, and prints each call with its answer and the table. Then lays the
 // same sweep under two other losses.
+#![tactic(auto)]
+
 mod stop;
 mod task;
 

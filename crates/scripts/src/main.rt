@@ -1,6 +1,8 @@
 // Runs scripts through the console and compares what it writes, to the byte, with what is expected. Standard input has the
 // names, one a line: NAME.in is the script and NAME.out what is expected of it. At the end it says how many worked examples
 // hold.
+#![tactic(auto)]
+
 mod stop;
 #[cfg(test)]
 mod tests;

@@ -4,6 +4,8 @@
 //
 // The loss is s for squares, a for absolute or b for bands; the limit is the pull limit, or - for none. A point is
 // level/weight, and under bands low/high/weight. A line that begins with # is skipped.
+#![tactic(auto)]
+
 mod stop;
 mod text;
 

@@ -1,4 +1,6 @@
 // Tables: rows of a count and a level, the holders that keep them, and the conversion of counts by them.
+#![tactic(auto)]
+
 pub mod binary;
 mod block;
 #[cfg(test)]

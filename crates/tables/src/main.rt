@@ -5,6 +5,8 @@
 // A row is count:level and a patch offset=value. A + has both sums of each patched block made right
 // again. The answer is ok, or the layer, number, line and column of the refusal. A line that begins
 // with # is skipped.
+#![tactic(auto)]
+
 mod damage;
 mod stop;
 

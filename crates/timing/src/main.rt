@@ -1,5 +1,7 @@
 // Fits made-up sweeps of 16, 128 and 1,024 points, and prints a checksum of the levels of each. Called with the words
 // `time N` it fits 1,024 points N times, and shorter sweeps as much more often, and prints the nanoseconds of one fit too.
+#![tactic(auto)]
+
 mod stop;
 mod sweep;
 

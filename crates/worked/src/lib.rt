@@ -1,4 +1,6 @@
 // Examples worked by hand, which the definitions of the other crates must give.
+#![tactic(auto)]
+
 ghost use Rattle.std.specs.Prelude.{◌≡◌, length};
 ghost use Rattle.std.specs.List.{AllByRecursion as All};
 ghost use Rattle.worked.specs.Worked.{Holds, examples};
