@@ -14,11 +14,11 @@ use table::holder::Holder;
 
 // Puts a row for each point into a holder that has none.
 fn put_rows<P, H: Holder>(holder: &mut H, entries: &[Entry<P>], levels: &[u16]) -> Result<(), Fault>
-    requires { (listed holder.old ≡ []) × ((length levels.now ≡ length entries.now) × ((length entries.now ≤ room holder.old) × (All (λ e. e.count ≤ 16777215) entries.now))) }
+    requires { (H.listed holder.old ≡ []) × ((length levels.now ≡ length entries.now) × ((length entries.now ≤ H.room holder.old) × (All (λ e. e.count ≤ 16777215) entries.now))) }
     ensures answer { result ≡ Ok tt }
-    ensures rows { listed holder.new ≡ rows_of entries.now levels.now }
-    ensures room { room holder.new ≡ room holder.old }
-    ensures memory { memory holder.new ≡ bytes_after extended (memory holder.old) [] (rows_of entries.now levels.now) }
+    ensures rows { H.listed holder.new ≡ rows_of entries.now levels.now }
+    ensures room { H.room holder.new ≡ H.room holder.old }
+    ensures memory { H.memory holder.new ≡ bytes_after H.extended (H.memory holder.old) [] (rows_of entries.now levels.now) }
 {
     for i in 0..entries.len() {
         holder.put(entries[i].count, levels[i])?;
@@ -34,12 +34,12 @@ fn lay_through<L: Loss, H: Holder>(
     levels: &mut [u16],
     holder: &mut H,
 ) -> Result<(), Fault>
-    requires { (length levels.old ≡ length entries.now) × ((length entries.now ≤ 1024) × ((length entries.now ≤ room holder.old) × (All (λ e. e.count ≤ 16777215) entries.now))) }
+    requires { (length levels.old ≡ length entries.now) × ((length entries.now ≤ 1024) × ((length entries.now ≤ H.room holder.old) × (All (λ e. e.count ≤ 16777215) entries.now))) }
     ensures answer { result ≡ Ok tt }
-    ensures rows { listed holder.new ≡ rows_of entries.now (fitted (slope loss.now) top (points_of entries.now)) }
-    ensures cheapest { LeastCheapest (cost loss.now) top (points_of entries.now) (fitted (slope loss.now) top (points_of entries.now)) }
-    ensures room { room holder.new ≡ room holder.old }
-    ensures memory { memory holder.new ≡ bytes_after extended (cleared (memory holder.old) (listed holder.old)) [] (rows_of entries.now (fitted (slope loss.now) top (points_of entries.now))) }
+    ensures rows { H.listed holder.new ≡ rows_of entries.now (fitted (L.slope loss.now) top (points_of entries.now)) }
+    ensures cheapest { LeastCheapest (L.cost loss.now) top (points_of entries.now) (fitted (L.slope loss.now) top (points_of entries.now)) }
+    ensures room { H.room holder.new ≡ H.room holder.old }
+    ensures memory { H.memory holder.new ≡ bytes_after H.extended (H.cleared (H.memory holder.old) (H.listed holder.old)) [] (rows_of entries.now (fitted (L.slope loss.now) top (points_of entries.now))) }
 {
     let _ = fit(loss, entries, top, levels);
     holder.clear();
@@ -53,12 +53,12 @@ pub(super) fn lay_rows<L: Loss, H: Holder>(
     top: u16,
     holder: &mut H,
 ) -> Result<(), Fault>
-    requires { (length entries.now ≤ 1024) × ((length entries.now ≤ room holder.old) × (All (λ e. e.count ≤ 16777215) entries.now)) }
+    requires { (length entries.now ≤ 1024) × ((length entries.now ≤ H.room holder.old) × (All (λ e. e.count ≤ 16777215) entries.now)) }
     ensures answer { result ≡ Ok tt }
-    ensures rows { listed holder.new ≡ rows_of entries.now (fitted (slope loss.now) top (points_of entries.now)) }
-    ensures cheapest { LeastCheapest (cost loss.now) top (points_of entries.now) (fitted (slope loss.now) top (points_of entries.now)) }
-    ensures room { room holder.new ≡ room holder.old }
-    ensures memory { memory holder.new ≡ bytes_after extended (cleared (memory holder.old) (listed holder.old)) [] (rows_of entries.now (fitted (slope loss.now) top (points_of entries.now))) }
+    ensures rows { H.listed holder.new ≡ rows_of entries.now (fitted (L.slope loss.now) top (points_of entries.now)) }
+    ensures cheapest { LeastCheapest (L.cost loss.now) top (points_of entries.now) (fitted (L.slope loss.now) top (points_of entries.now)) }
+    ensures room { H.room holder.new ≡ H.room holder.old }
+    ensures memory { H.memory holder.new ≡ bytes_after H.extended (H.cleared (H.memory holder.old) (H.listed holder.old)) [] (rows_of entries.now (fitted (L.slope loss.now) top (points_of entries.now))) }
 {
     let mut levels = [0u16; 1024];
     let n = entries.len();

@@ -96,8 +96,8 @@ impl Stack {
     // Takes in the last point of `seen`: it enters as a block of its own, and blocks are pooled while the newest is
     // lower than the one before.
     fn enter<L: Loss>(&mut self, loss: &L, seen: &[Entry<L::Point>], top: u16)
-        requires { (0 < length seen.now) × ((length seen.now ≤ 1024) × (Stacked (slope loss.now) top (newest_first self.old) (points_of (take (length seen.now - 1) seen.now)))) }
-        ensures { Stacked (slope loss.now) top (newest_first self.new) (points_of seen.now) }
+        requires { (0 < length seen.now) × ((length seen.now ≤ 1024) × (Stacked (L.slope loss.now) top (newest_first self.old) (points_of (take (length seen.now - 1) seen.now)))) }
+        ensures { Stacked (L.slope loss.now) top (newest_first self.new) (points_of seen.now) }
     {
         let last = seen.len() - 1;
         let alone = best_block(loss, seen, last, last + 1, 0, top, top / 2);
@@ -131,7 +131,7 @@ impl Stack {
 // The steps of a run at one level, added up.
 fn summed<L: Loss>(loss: &L, run: &[Entry<L::Point>], level: u16) -> i64
     requires { length run.now ≤ 1024 }
-    ensures { result ≡ summed_step (slope loss.now) (points_of run.now) level }
+    ensures { result ≡ summed_step (L.slope loss.now) (points_of run.now) level }
 {
     let mut sum: i64 = 0;
     for e in run {
@@ -159,7 +159,7 @@ fn find_crossing<L: Loss>(
     guess: u16,
 ) -> Crossing
     requires { (length run.now ≤ 1024) × (low ≤ high) }
-    ensures { result.level ≡ first_up (summed_step (slope loss.now) (points_of run.now)) low (high - low) }
+    ensures { result.level ≡ first_up (summed_step (L.slope loss.now) (points_of run.now)) low (high - low) }
 {
     let mut from = low;
     let mut to = high;
@@ -208,7 +208,7 @@ fn best_block<L: Loss>(
     guess: u16,
 ) -> Block
     requires { (length seen.now ≤ 1024) × ((start ≤ end) × ((end ≤ length seen.now) × (low ≤ high))) }
-    ensures { (result.start ≡ start) × ((result.end ≡ end) × (result.level ≡ first_up (summed_step (slope loss.now) (points_of (take (end - start) (drop start seen.now)))) low (high - low))) }
+    ensures { (result.start ≡ start) × ((result.end ≡ end) × (result.level ≡ first_up (summed_step (L.slope loss.now) (points_of (take (end - start) (drop start seen.now)))) low (high - low))) }
 {
     let crossing = find_crossing(loss, &seen[start..end], low, high, guess);
     Block {
@@ -270,8 +270,8 @@ pub fn fit<L: Loss>(
     levels: &mut [u16],
 ) -> Result<(), Misfit>
     ensures value { result ≡ fit_answer (length entries.now) (length levels.old) }
-    ensures after { levels.new ≡ (if is_ok result then fitted (slope loss.now) top (points_of entries.now) else levels.old) }
-    ensures cheapest { is_ok result ≡ true → LeastCheapest (cost loss.now) top (points_of entries.now) levels.new }
+    ensures after { levels.new ≡ (if is_ok result then fitted (L.slope loss.now) top (points_of entries.now) else levels.old) }
+    ensures cheapest { is_ok result ≡ true → LeastCheapest (L.cost loss.now) top (points_of entries.now) levels.new }
 {
     if entries.len() > 1024 {
         return Err(Misfit::TooMany);

@@ -7,7 +7,7 @@ use fault::{Fault, Question};
 
 // The place of the first row that reaches the count, or the number of rows where none does.
 fn find<H: Holder>(holder: &H, count: u32) -> usize
-    ensures { result ≡ first_at_least (listed holder.now) count }
+    ensures { result ≡ first_at_least (H.listed holder.now) count }
 {
     let mut i = 0;
     while let Some((c, _)) = holder.row(i) {
@@ -34,8 +34,8 @@ fn between(k0: u32, l0: u16, k1: u32, l1: u16, count: u32) -> u16
 // The row found is the first that reaches the count. A row of that very count gives its level, and
 // else the level lies on the straight line from the row before.
 pub fn convert<H: Holder>(holder: &H, count: u32) -> Result<u16, Fault>
-    ensures answer { result ≡ conversion (listed holder.now) count }
-    ensures orderly { Rising (listed holder.now) → Orderly (listed holder.now) }
+    ensures answer { result ≡ conversion (H.listed holder.now) count }
+    ensures orderly { Rising (H.listed holder.now) → Orderly (H.listed holder.now) }
 {
     let Some((first, _)) = holder.row(0) else {
         return Err(Fault::plain(Question::ConvertEmpty));

@@ -18,12 +18,12 @@ impl<'a, P: Copy> Bench<'a, P> {
         holder: &mut H,
         request: &Request<P, L>,
     ) -> Answer
-        ensures answer { result ≡ answered slope self.old.top (room holder.old) (record { clears = cleared; extends = extended }) (standing self.old (listed holder.old) (memory holder.old)) request.now }
-        ensures after { standing self.new (listed holder.new) (memory holder.new) ≡ served slope self.old.top (room holder.old) (record { clears = cleared; extends = extended }) (standing self.old (listed holder.old) (memory holder.old)) request.now }
+        ensures answer { result ≡ answered L.slope self.old.top (H.room holder.old) (record { clears = H.cleared; extends = H.extended }) (standing self.old (H.listed holder.old) (H.memory holder.old)) request.now }
+        ensures after { standing self.new (H.listed holder.new) (H.memory holder.new) ≡ served L.slope self.old.top (H.room holder.old) (record { clears = H.cleared; extends = H.extended }) (standing self.old (H.listed holder.old) (H.memory holder.old)) request.now }
         ensures top { self.new.top ≡ self.old.top }
-        ensures room { room holder.new ≡ room holder.old }
+        ensures room { H.room holder.new ≡ H.room holder.old }
         ensures places { places_of (memory_of self.new) ≡ places_of (memory_of self.old) }
-        ensures law { (h : History P) → Kept self.old (room holder.old) (listed holder.old) h → ((e : Event P) × Told cost request.now result e × Kept self.new (room holder.new) (listed holder.new) (e ∷ h)) }
+        ensures law { (h : History P) → Kept self.old (H.room holder.old) (H.listed holder.old) h → ((e : Event P) × Told L.cost request.now result e × Kept self.new (H.room holder.new) (H.listed holder.new) (e ∷ h)) }
     {
         match request {
             Request::Add(count, point) => done(self.add(*count, *point)),
@@ -41,11 +41,11 @@ impl<'a, P: Copy> Bench<'a, P> {
         answers: &mut [Answer],
     ) -> usize
         ensures count { result ≡ min (length requests.now) (length answers.old) }
-        ensures answers { answers.new ≡ answered_all slope self.old.top (room holder.old) (record { clears = cleared; extends = extended }) (standing self.old (listed holder.old) (memory holder.old)) (take result requests.now) ++ drop result answers.old }
-        ensures after { standing self.new (listed holder.new) (memory holder.new) ≡ served_all slope self.old.top (room holder.old) (record { clears = cleared; extends = extended }) (standing self.old (listed holder.old) (memory holder.old)) (take result requests.now) }
+        ensures answers { answers.new ≡ answered_all L.slope self.old.top (H.room holder.old) (record { clears = H.cleared; extends = H.extended }) (standing self.old (H.listed holder.old) (H.memory holder.old)) (take result requests.now) ++ drop result answers.old }
+        ensures after { standing self.new (H.listed holder.new) (H.memory holder.new) ≡ served_all L.slope self.old.top (H.room holder.old) (record { clears = H.cleared; extends = H.extended }) (standing self.old (H.listed holder.old) (H.memory holder.old)) (take result requests.now) }
         ensures top { self.new.top ≡ self.old.top }
-        ensures room { room holder.new ≡ room holder.old }
-        ensures law { held_of self.old ≡ [] → listed holder.old ≡ [] → ((h : History P) × ToldAll cost (take result requests.now) (take result answers.new) h × Kept self.new (room holder.new) (listed holder.new) h) }
+        ensures room { H.room holder.new ≡ H.room holder.old }
+        ensures law { held_of self.old ≡ [] → H.listed holder.old ≡ [] → ((h : History P) × ToldAll L.cost (take result requests.now) (take result answers.new) h × Kept self.new (H.room holder.new) (H.listed holder.new) h) }
     {
         let n = requests.len().min(answers.len());
         for i in 0..n {

@@ -74,11 +74,11 @@ impl<'a, P: Copy> Bench<'a, P> {
 
     // Fits the points held and makes the table the rows of a holder.
     fn lay_held<L: Loss<Point = P>, H: Holder>(&self, loss: &L, holder: &mut H) -> Result<(), Fault>
-        ensures answer { result ≡ lay_answer (room holder.old) (held_of self.now) }
-        ensures rows { listed holder.new ≡ once_accepted result (laid_rows (slope loss.now) self.now.top (held_of self.now)) (listed holder.old) }
-        ensures table { is_ok result ≡ true → TableOf (cost loss.now) self.now.top (held_of self.now) (listed holder.new) }
-        ensures room { room holder.new ≡ room holder.old }
-        ensures memory { memory holder.new ≡ once_accepted result (bytes_after extended (cleared (memory holder.old) (listed holder.old)) [] (laid_rows (slope loss.now) self.now.top (held_of self.now))) (memory holder.old) }
+        ensures answer { result ≡ lay_answer (H.room holder.old) (held_of self.now) }
+        ensures rows { H.listed holder.new ≡ once_accepted result (laid_rows (L.slope loss.now) self.now.top (held_of self.now)) (H.listed holder.old) }
+        ensures table { is_ok result ≡ true → TableOf (L.cost loss.now) self.now.top (held_of self.now) (H.listed holder.new) }
+        ensures room { H.room holder.new ≡ H.room holder.old }
+        ensures memory { H.memory holder.new ≡ once_accepted result (bytes_after H.extended (H.cleared (H.memory holder.old) (H.listed holder.old)) [] (laid_rows (L.slope loss.now) self.now.top (held_of self.now))) (H.memory holder.old) }
     {
         let held = self.list.held;
         if held == 0 {
@@ -117,19 +117,19 @@ impl<'a, P: Copy> Bench<'a, P> {
 
     // Lays the table of the points held in a holder: a row for each, by rising count, in the place of the rows there.
     pub fn lay<L: Loss<Point = P>, H: Holder>(&self, loss: &L, holder: &mut H) -> Result<(), Fault>
-        ensures answer { result ≡ lay_answer (room holder.old) (held_of self.now) }
-        ensures rows { listed holder.new ≡ once_accepted result (laid_rows (slope loss.now) self.now.top (held_of self.now)) (listed holder.old) }
-        ensures room { room holder.new ≡ room holder.old }
-        ensures memory { memory holder.new ≡ once_accepted result (bytes_after extended (cleared (memory holder.old) (listed holder.old)) [] (laid_rows (slope loss.now) self.now.top (held_of self.now))) (memory holder.old) }
-        ensures law { (h : History P) → Kept self.now (room holder.old) (listed holder.old) h → Kept self.now (room holder.new) (listed holder.new) (laid (cost loss.now) result (listed holder.new) ∷ h) }
+        ensures answer { result ≡ lay_answer (H.room holder.old) (held_of self.now) }
+        ensures rows { H.listed holder.new ≡ once_accepted result (laid_rows (L.slope loss.now) self.now.top (held_of self.now)) (H.listed holder.old) }
+        ensures room { H.room holder.new ≡ H.room holder.old }
+        ensures memory { H.memory holder.new ≡ once_accepted result (bytes_after H.extended (H.cleared (H.memory holder.old) (H.listed holder.old)) [] (laid_rows (L.slope loss.now) self.now.top (held_of self.now))) (H.memory holder.old) }
+        ensures law { (h : History P) → Kept self.now (H.room holder.old) (H.listed holder.old) h → Kept self.now (H.room holder.new) (H.listed holder.new) (laid (L.cost loss.now) result (H.listed holder.new) ∷ h) }
     {
         self.lay_held(loss, holder)
     }
 
     // The level of a count by the rows of a holder.
     pub fn convert<H: Holder>(&self, holder: &H, count: u32) -> Result<u16, Fault>
-        ensures answer { result ≡ conversion (listed holder.now) count }
-        ensures law { (h : History P) → Kept self.now (room holder.now) (listed holder.now) h → Kept self.now (room holder.now) (listed holder.now) (converted count result ∷ h) }
+        ensures answer { result ≡ conversion (H.listed holder.now) count }
+        ensures law { (h : History P) → Kept self.now (H.room holder.now) (H.listed holder.now) h → Kept self.now (H.room holder.now) (H.listed holder.now) (converted count result ∷ h) }
     {
         convert(holder, count)
     }

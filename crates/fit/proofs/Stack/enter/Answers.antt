@@ -20,10 +20,10 @@ pub loop-before-init : goal.loop-before-init
 loop-before-init g c =
     let step = g.L.Loss.slope c.args.loss.now in
     let es = c.args.seen.now in
-    let made = c.best-block-alone.ensures in
+    let made = c.best_block-alone.ensures in
     let rises : Rises step c.args.top = rises_below step (2 ^ 16) c.args.top (omega arith) (g.met.L.Loss.convex c.args.loss.now) in
     subst (λ bs. Entered step c.args.top bs (points_of es)) (sym c.push.ensures.0)
-    (entered step c.args.top rises es (newest_first c.args.self.now) c.best-block-alone.result (length es - 1) (omega arith) c.requires.1.1 made.0 made.1.0 made.1.1)
+    (entered step c.args.top rises es (newest_first c.args.self.now) c.best_block-alone.result (length es - 1) (omega arith) c.requires.1.1 made.0 made.1.0 made.1.1)
 
 pub falling-requires : goal.falling-requires
 falling-requires g c =
@@ -41,9 +41,9 @@ both g c = subst (λ bs. Entered (g.L.Loss.slope c.args.loss.now) c.args.top bs 
 rising : (g : given.Over) (c : After-guess-at g) → Rises (g.L.Loss.slope c.args.loss.now) c.args.top
 rising g c = rises_below (g.L.Loss.slope c.args.loss.now) (2 ^ 16) c.args.top (omega arith) (g.met.L.Loss.convex c.args.loss.now)
 
-pub best-block-both-requires : goal.best-block-both-requires
-best-block-both-requires g c =
-    let w = (goal.at.best-block-both-requires g c).After-guess-at in
+pub best_block-both-requires : goal.best_block-both-requires
+best_block-both-requires g c =
+    let w = (goal.at.best_block-both-requires g c).After-guess-at in
     let at = places (g.L.Loss.slope c.args.loss.now) c.args.top (rising g w) c.args.seen.now _ _ _ (both g w) in
     (c.requires.1.0, (at.0, (at.1, omega (arith, (two g w).lower))))
 
@@ -57,7 +57,7 @@ pool-requires g c =
 pub loop-before-preserved : goal.loop-before-preserved
 loop-before-preserved g c =
     let w = (goal.at.loop-before-preserved g c).After-guess-at in
-    let made = c.best-block-both.ensures in
+    let made = c.best_block-both.ensures in
     let step = g.L.Loss.slope c.args.loss.now in
     subst (λ bs. Entered step c.args.top bs (points_of c.args.seen.now)) (sym c.pool.ensures.0)
-    (pooled step c.args.top (rising g w) c.args.seen.now _ c.in-Some.before c.in-Some.newest c.best-block-both.result (both g w) (two g w).lower made.0 made.1.0 made.1.1)
+    (pooled step c.args.top (rising g w) c.args.seen.now _ c.in-Some.before c.in-Some.newest c.best_block-both.result (both g w) (two g w).lower made.0 made.1.0 made.1.1)

@@ -13,13 +13,13 @@ factors c =
     let d : held c.args.rise ≡ c.args.rise = omega (arith, ints) in
     rw (w, d)
 
-pub overflow-mul-result : goal.overflow-mul-result
-overflow-mul-result c =
+pub overflow_mul-result : goal.overflow_mul-result
+overflow_mul-result c =
     let b = weighed_within c.args.weight c.args.rise (omega arith) c.requires.0 c.requires.1 in
     rw (factors c) (omega (arith, ints))
 
 pub returns : goal.returns
 returns c =
     let b = weighed_within c.args.weight c.args.rise (omega arith) c.requires.0 c.requires.1 in
-    let v : held (held c.from.result *ℤ held c.args.rise) ≡ pos c.args.weight *ℤ c.args.rise = to_z-of_z w64 _ (overflow-mul-result c) ∙ factors c in
+    let v : held (held c.from.result *ℤ held c.args.rise) ≡ pos c.args.weight *ℤ c.args.rise = to_z-of_z w64 _ (overflow_mul-result c) ∙ factors c in
     record { value = v; low = rw v (omega (arith, ints)); high = rw v (omega (arith, ints)) }
