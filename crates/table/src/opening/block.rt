@@ -22,7 +22,7 @@ pub fn sums_right(block: &[u8]) -> bool
     requires { length block.now ≡ 512 }
     ensures { result ≡ sums_right block.now }
 {
-    &block[SUMMED_BYTES..] == sum_bytes(&block[..SUMMED_BYTES])
+    &block[SUMMED_BYTES..] == sum_bytes(&block[..SUMMED_BYTES]).as_slice()
 }
 
 // Whether a block may have so many rows, with so many blocks behind it and rows before it.
@@ -46,7 +46,7 @@ pub fn body_right(number: u16, block: &[u8], rows: &[Row]) -> bool
         return false;
     };
     let head = [*m0, *m1, *count, *zero, *n0, *n1, *z0, *z1];
-    head == head_bytes(number, rows.len() as u8) && &rest[..500] == place_bytes(rows)
+    head == head_bytes(number, rows.len() as u8) && &rest[..500] == place_bytes(rows).as_slice()
 }
 
 fn row_after(row: Row) -> Least

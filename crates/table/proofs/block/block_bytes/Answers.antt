@@ -8,7 +8,7 @@ pub returns : goal.returns
 unfolding block_bytes
 returns c =
     filled 512 508 c.write.new.bytes c.write-2.new.bytes _ _
-    (c.write.ensures ∙ ap (over _ 0) c.body-bytes-body.ensures)
-    (c.write-2.ensures ∙ ap (over c.write.new.bytes 508) (c.sum-bytes-sums.ensures ∙ ap sum_bytes c.body-bytes-body.ensures))
+    (c.write.ensures ∙ ap (over _ 0) c.body_bytes-body.ensures)
+    (c.write-2.ensures ∙ ap (over c.write.new.bytes 508) (c.sum_bytes-sums.ensures ∙ ap sum_bytes c.body_bytes-body.ensures))
     (length_body c.args.number c.args.rows.now c.requires)
     (omega (arith, length_sums (block_body c.args.number c.args.rows.now)))

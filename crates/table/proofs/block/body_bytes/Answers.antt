@@ -8,7 +8,7 @@ pub returns : goal.returns
 unfolding block_body
 returns c =
     filled 508 8 c.write.new.bytes c.write-2.new.bytes _ _
-    (c.write.ensures ∙ ap (over _ 0) c.head-bytes.ensures)
-    (c.write-2.ensures ∙ ap (over c.write.new.bytes 8) c.place-bytes.ensures)
+    (c.write.ensures ∙ ap (over _ 0) c.head_bytes.ensures)
+    (c.write-2.ensures ∙ ap (over c.write.new.bytes 8) c.place_bytes.ensures)
     refl
     (omega (arith, length_places c.args.rows.now c.requires))

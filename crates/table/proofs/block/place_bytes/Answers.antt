@@ -8,5 +8,5 @@ pub returns : goal.returns
 unfolding block_places
 returns c =
     let written = flat_map row_bytes c.args.rows.now in
-    c.write-rows.ensures
+    c.write_rows.ensures
     ∙ (over_zeros 500 written ∙ ap (λ k. written ++ replicate (500 - k) 0) (length_rows c.args.rows.now))

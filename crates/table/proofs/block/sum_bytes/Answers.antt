@@ -18,8 +18,8 @@ returns c =
     let full = take_all c.loop-byte.byte-index c.args.bytes.now (omega arith) in
     let f : c.loop-byte.first ≡ sum c.args.bytes.now = c.loop-byte.invariant.0 ∙ ap sum full in
     let s : c.loop-byte.second ≡ weighted c.args.bytes.now = c.loop-byte.invariant.1 ∙ ap weighted full in
-    let r = c.to-le-bytes-2.result in
+    let r = c.to_le_bytes-2.result in
     let n = c.loop-byte.first in
-    ap (λ xs. get_or xs 0 0 ∷ get_or xs 1 0 ∷ get_or r 0 0 ∷ get_or r 1 0 ∷ []) c.to-le-bytes.ensures
-    ∙ (ap (λ xs. (n % 256) ∷ (n / 256 % 256) ∷ get_or xs 0 0 ∷ get_or xs 1 0 ∷ []) c.to-le-bytes-2.ensures
+    ap (λ xs. get_or xs 0 0 ∷ get_or xs 1 0 ∷ get_or r 0 0 ∷ get_or r 1 0 ∷ []) c.to_le_bytes.ensures
+    ∙ (ap (λ xs. (n % 256) ∷ (n / 256 % 256) ∷ get_or xs 0 0 ∷ get_or xs 1 0 ∷ []) c.to_le_bytes-2.ensures
     ∙ (λ i. two_bytes (f i) ++ two_bytes (s i)))

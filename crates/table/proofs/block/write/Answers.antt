@@ -8,6 +8,6 @@ pub returns : goal.returns
 unfolding over
 returns c =
     let n = length c.args.part.now in
-    ap (put_mid c.args.at _ c.args.bytes.now) c.copy-from-slice.ensures.after
+    ap (put_mid c.args.at _ c.args.bytes.now) c.copy_from_slice.ensures.after
     ∙ ap (λ xs. take c.args.at c.args.bytes.now ++ (c.args.part.now ++ xs))
     (ap (λ k. drop k (drop c.args.at c.args.bytes.now)) {y = n} (omega arith) ∙ drop-drop n c.args.at c.args.bytes.now)

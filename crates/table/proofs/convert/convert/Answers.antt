@@ -6,7 +6,7 @@ use Rattle.table.proofs.Answered.{Entered, answer_empty, answer_below, answer_ab
 use Rattle.table.proofs.Rises.{orderly}
 use Rattle.table.proofs.convert.convert.Given as given
 use Rattle.table.proofs.convert.convert.Goals as goal
-use Rattle.table.proofs.convert.convert.Goals.{Start, After-find-found, In-default-row, In-Some-row, After-unwrap-k0}
+use Rattle.table.proofs.convert.convert.Goals.{Start, After-find-found, In_default-row, In-Some-row, After-unwrap-k0}
 
 abbrev rows : (g : given.Over) → Start g → List (ℕ × ℕ)
 rows g c = g.H.Holder.listed c.args.holder.now
@@ -17,17 +17,17 @@ entered g c = record { first = sym c.in-Some.ensures; above = omega (arith, c.if
 there : (g : given.Over) (c : In-Some-row g) → slice_get (g.H.Holder.listed c.args.holder.now) c.find-found.result ≡ Some (c.in-Some-row.k1, c.in-Some-row.l1)
 there g c = sym c.in-Some-row.ensures
 
-none_there : (g : given.Over) (c : In-default-row g) → slice_get (g.H.Holder.listed c.args.holder.now) c.find-found.result ≡ None
-none_there g c = sym c.in-default-row.ensures
+none_there : (g : given.Over) (c : In_default-row g) → slice_get (g.H.Holder.listed c.args.holder.now) c.find-found.result ≡ None
+none_there g c = sym c.in_default-row.ensures
 
 before : (g : given.Over) (c : After-unwrap-k0 g) → slice_get (g.H.Holder.listed c.args.holder.now) (c.find-found.result - 1) ≡ Some c.unwrap-k0.result
 before g c = sym c.row-3.ensures ∙ c.unwrap-k0.ensures
 
-pub returns-in-default : goal.returns-in-default
-returns-in-default g c =
-    let rs = rows g (goal.at.returns-in-default g c).Start in
+pub returns-in_default : goal.returns-in_default
+returns-in_default g c =
+    let rs = rows g (goal.at.returns-in_default g c).Start in
     record {
-      answer = ap Err c.plain.ensures ∙ sym (answer_empty rs c.args.count (sym c.in-default.ensures));
+      answer = ap Err c.plain.ensures ∙ sym (answer_empty rs c.args.count (sym c.in_default.ensures));
       orderly = orderly rs;
     }
 
@@ -41,13 +41,13 @@ returns-then-count-first g c =
       orderly = orderly rs;
     }
 
-pub returns-in-default-row : goal.returns-in-default-row
-returns-in-default-row g c =
-    let at = goal.at.returns-in-default-row g c in
+pub returns-in_default-row : goal.returns-in_default-row
+returns-in_default-row g c =
+    let at = goal.at.returns-in_default-row g c in
     record {
       answer =
-          ap Err c.plain-in-default-row.ensures
-          ∙ sym (answer_above (entered g at.After-find-found) (none_there g at.In-default-row));
+          ap Err c.plain-in_default-row.ensures
+          ∙ sym (answer_above (entered g at.After-find-found) (none_there g at.In_default-row));
       orderly = orderly (rows g at.Start);
     }
 
@@ -59,9 +59,9 @@ returns-then-k1-count g c =
       orderly = orderly (rows g at.Start);
     }
 
-pub overflow-sub-found : goal.overflow-sub-found
-overflow-sub-found g c =
-    let at = goal.at.overflow-sub-found g c in
+pub overflow_sub-found : goal.overflow_sub-found
+overflow_sub-found g c =
+    let at = goal.at.overflow_sub-found g c in
     not_first (entered g at.After-find-found) _ (there g at.In-Some-row) c.if-k1-count.false
 
 pub unwrap-k0-requires : goal.unwrap-k0-requires

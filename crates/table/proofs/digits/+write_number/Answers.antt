@@ -17,8 +17,8 @@ returns-then-n-lt10 t c =
           ∙ ap (over c.args.bytes.now c.args.at) (sym one);
     }
 
-pub write-number-end-requires : goal.write-number-end-requires
-write-number-end-requires t c =
+pub write_number-end-requires : goal.write_number-end-requires
+write_number-end-requires t c =
     let step = length_decimal_step c.args.n c.if-n-lt10.false (omega arith) in
     (search rules, omega (arith, step))
 
@@ -28,13 +28,13 @@ bounds-bytes-end t c =
     omega (
       arith,
       step,
-      c.write-number-end.ensures.end,
-      ap length c.write-number-end.ensures.text,
+      c.write_number-end.ensures.end,
+      ap length c.write_number-end.ensures.text,
       length_over c.args.bytes.now c.args.at (decimal (c.args.n / 10)) (omega (arith, step)),
     )
 
-pub overflow-add-result-2 : goal.overflow-add-result-2
-overflow-add-result-2 t c = let h = bounds-bytes-end t c in search rules
+pub overflow_add-result-2 : goal.overflow_add-result-2
+overflow_add-result-2 t c = let h = bounds-bytes-end t c in search rules
 
 pub returns : goal.returns
 returns t c =
@@ -43,10 +43,10 @@ returns t c =
     let ws = decimal (c.args.n / 10) in
     let b = 48 + c.args.n % 10 in
     record {
-      end = omega (arith, step, c.write-number-end.ensures.end);
+      end = omega (arith, step, c.write_number-end.ensures.end);
       text =
-          ap (λ xs. set xs c.write-number-end.result b) c.write-number-end.ensures.text
-          ∙ (ap (λ k. set (over bs c.args.at ws) k b) c.write-number-end.ensures.end
+          ap (λ xs. set xs c.write_number-end.result b) c.write_number-end.ensures.text
+          ∙ (ap (λ k. set (over bs c.args.at ws) k b) c.write_number-end.ensures.end
           ∙ (over_more bs c.args.at ws b (omega (arith, step))
           ∙ ap (over bs c.args.at) (sym (decimal_step c.args.n c.if-n-lt10.false (omega arith)))));
     }

@@ -2,6 +2,6 @@ use Rattle.std.proofs.Common.{rules}
 use Rattle.table.specs.Binary.{binary_bytes}
 use Rattle.table.proofs.binary.BinaryTable.new.Goals as goal
 
-pub invariant-of-result : goal.invariant-of-result
+pub invariant_of-result : goal.invariant_of-result
 unfolding binary_bytes
-invariant-of-result c = search rules
+invariant_of-result c = search rules

@@ -60,42 +60,43 @@ module _ (c : Start) where
 pub bounds-self-end : goal.bounds-self-end
 bounds-self-end c = place (goal.at.bounds-self-end c).Start
 
-pub invariant-of-self : goal.invariant-of-self
-invariant-of-self c =
-    let s = (goal.at.invariant-of-self c).Start in (
-      length-set (rows s) (len s) (row s) ∙ c.args.self.now.places,
-      (c.args.self.now.few, (c.args.self.now.blocks ∙ ap binary_bytes (sym (take-set (rows s) (len s) (row s))), tt)),
-    )
+pub invariant_of-self : goal.invariant_of-self
+invariant_of-self c =
+    let s = (goal.at.invariant_of-self c).Start in
+    record {
+      places = length-set (rows s) (len s) (row s) ∙ c.args.self.now.places;
+      few = c.args.self.now.few;
+      blocks = c.args.self.now.blocks ∙ ap binary_bytes (sym (take-set (rows s) (len s) (row s)));
+    }
 
-pub slice-bounds-block-bytes-end : goal.slice-bounds-block-bytes-end
-slice-bounds-block-bytes-end c = let h = place (goal.at.slice-bounds-block-bytes-end c).Start in search rules
+pub slice_bounds-block_bytes-end : goal.slice_bounds-block_bytes-end
+slice_bounds-block_bytes-end c = let h = place (goal.at.slice_bounds-block_bytes-end c).Start in search rules
 
-pub put-block-requires : goal.put-block-requires
-put-block-requires c =
-    let s = (goal.at.put-block-requires c).Start in
-    omega (arith, space s, whole s c.block-bytes-block.result _ c.block-bytes-block.ensures refl)
+pub put_block-requires : goal.put_block-requires
+put_block-requires c =
+    let s = (goal.at.put_block-requires c).Start in
+    omega (arith, space s, whole s c.block_bytes-block.result _ c.block_bytes-block.ensures refl)
 
-pub invariant-of-self-2 : goal.invariant-of-self-2
-invariant-of-self-2 c =
-    let s = (goal.at.invariant-of-self-2 c).Start in
-    let block = c.block-bytes-block.result in
-    let new = c.put-block.new.self.bytes.now in
-    let made = c.block-bytes-block.ensures in
-    let written = c.put-block.ensures in (
-      length-set (rows s) (len s) (row s) ∙ c.args.self.now.places,
-      (
-        omega (arith, kept s block new made written, held s, c.requires),
-        (stacked s block new made written, tt),
-      ),
-    )
+pub invariant_of-self-2 : goal.invariant_of-self-2
+invariant_of-self-2 c =
+    let s = (goal.at.invariant_of-self-2 c).Start in
+    let block = c.block_bytes-block.result in
+    let new = c.put_block.new.self.bytes.now in
+    let made = c.block_bytes-block.ensures in
+    let written = c.put_block.ensures in
+    record {
+      places = length-set (rows s) (len s) (row s) ∙ c.args.self.now.places;
+      few = omega (arith, kept s block new made written, held s, c.requires);
+      blocks = stacked s block new made written;
+    }
 
 pub returns : goal.returns
 returns c =
     let s = (goal.at.returns c).Start in
-    let block = c.block-bytes-block.result in
-    let new = c.put-block.new.self.bytes.now in
-    let made = c.block-bytes-block.ensures in
-    let written = c.put-block.ensures in
+    let block = c.block_bytes-block.result in
+    let new = c.put_block.new.self.bytes.now in
+    let made = c.block_bytes-block.ensures in
+    let written = c.put_block.ensures in
     record {
       rows = listed s;
       room = ap (λ k. min (62 * (k / 512)) 1024) (kept s block new made written);

@@ -6,17 +6,18 @@ use Rattle.table.proofs.numeral.Numeral.of.Goals as goal
 few : (n : ℕ) → n < 2 ^ 32 → length (decimal n) ≤ 10
 few n h = length-decimal-le 10 n (omega arith) (omega arith) (omega arith)
 
-pub write-number-len-requires : goal.write-number-len-requires
-write-number-len-requires c = omega (arith, few c.args.n (omega arith))
+pub write_number-len-requires : goal.write_number-len-requires
+write_number-len-requires c = omega (arith, few c.args.n (omega arith))
 
-pub invariant-of-result : goal.invariant-of-result
-invariant-of-result c =
-    let short = few c.args.n (omega arith) in (
-      ap length c.write-number-len.ensures.text ∙ length_over _ 0 (decimal c.args.n) (omega (arith, short)),
-      (omega (arith, short, c.write-number-len.ensures.end), tt),
-    )
+pub invariant_of-result : goal.invariant_of-result
+invariant_of-result c =
+    let short = few c.args.n (omega arith) in
+    record {
+      places = ap length c.write_number-len.ensures.text ∙ length_over _ 0 (decimal c.args.n) (omega (arith, short));
+      few = omega (arith, short, c.write_number-len.ensures.end);
+    }
 
 pub returns : goal.returns
 returns c =
-    ap (λ k. take k c.write-number-len.new.bytes) c.write-number-len.ensures.end
-    ∙ (ap (take _) c.write-number-len.ensures.text ∙ take_over _ 0 (decimal c.args.n) (omega arith))
+    ap (λ k. take k c.write_number-len.new.bytes) c.write_number-len.ensures.end
+    ∙ (ap (take _) c.write_number-len.ensures.text ∙ take_over _ 0 (decimal c.args.n) (omega arith))

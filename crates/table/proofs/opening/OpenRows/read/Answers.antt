@@ -11,9 +11,9 @@ loop-i-preserved c =
     let places = c.args.places.now in
     let held = open_rows c.args.self.now in (
       omega (arith, c.loop-i.invariant.0),
-      take_more_set c.loop-i.self.rows c.loop-i.self.len c.row-at.result (omega (arith, c.loop-i.invariant.0, c.requires.room, c.loop-i.self.places))
-          ∙ (ap (λ rs. rs ++ (c.row-at.result ∷ [])) c.loop-i.invariant.1
-          ∙ (ap (λ r. (held ++ rows_read i places) ++ (r ∷ [])) c.row-at.ensures
+      take_more_set c.loop-i.self.rows c.loop-i.self.len c.row_at.result (omega (arith, c.loop-i.invariant.0, c.requires.room, c.loop-i.self.places))
+          ∙ (ap (λ rs. rs ++ (c.row_at.result ∷ [])) c.loop-i.invariant.1
+          ∙ (ap (λ r. (held ++ rows_read i places) ++ (r ∷ [])) c.row_at.ensures
           ∙ (append_assoc held (rows_read i places) (row_read (drop (8 * i) places) ∷ [])
           ∙ ap (λ rs. held ++ rs) (sym (rows_read_more i places))))),
     )

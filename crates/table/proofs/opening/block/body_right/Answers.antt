@@ -8,16 +8,16 @@ use Rattle.table.proofs.opening.block.body_right.Goals as goal
 use Rattle.table.proofs.opening.block.body_right.Goals.{After-eq}
 use Rattle.std.proofs.lemmas.Bool.Decides.{Decides-eqb}
 
-pub slice-bounds-eq-end : goal.slice-bounds-eq-end
-slice-bounds-eq-end c =
+pub slice_bounds-eq-end : goal.slice_bounds-eq-end
+slice_bounds-eq-end c =
     sym (length-take-le _ _ (omega (arith, c.requires.block, length-take (length c.args.block.now - 8) (drop 8 c.args.block.now), length-drop 8 c.args.block.now)))
 
 -- the test of the head
 head_test : (c : After-eq) → Decides c.eq.result (take 8 c.args.block.now ≡ block_head c.args.number (length c.args.rows.now))
 head_test c =
-    decides_as _ c.head-bytes.result _ _ c.eq.result (slice_eq-Decides Decides-eqb _ _ _ c.eq.ensures)
+    decides_as _ c.head_bytes.result _ _ c.eq.result (slice_eq-Decides Decides-eqb _ _ _ c.eq.ensures)
     (sym (first_eight c.args.block.now (omega (arith, c.requires.block))))
-    c.head-bytes.ensures
+    c.head_bytes.ensures
 
 pub returns-then-eq : goal.returns-then-eq
 returns-then-eq c =
@@ -25,7 +25,7 @@ returns-then-eq c =
     ap (λ t. t && p) (sym c.if-eq.true)
     ∙ body_both c.args.number c.args.block.now c.args.rows.now c.eq.result p (omega (arith, c.requires.block))
     (head_test (goal.at.returns-then-eq c).After-eq)
-    (decides_as _ _ _ _ p (slice_eq-Decides Decides-eqb _ _ _ c.eq-then-eq.ensures) (ap (take 500) (take_rest c.args.block.now 8)) c.place-bytes.ensures)
+    (decides_as _ _ _ _ p (slice_eq-Decides Decides-eqb _ _ _ c.eq-then-eq.ensures) (ap (take 500) (take_rest c.args.block.now 8)) (c.as_slice.ensures ∙ c.place_bytes.ensures))
 
 pub returns-else-eq : goal.returns-else-eq
 returns-else-eq c =

@@ -4,4 +4,4 @@ use Rattle.table.proofs.opening.block.row_at.Goals as goal
 
 pub returns : goal.returns
 returns c =
-    (λ i. (c.from-le-bytes-count.ensures i, c.from-le-bytes-level.ensures i)) ∙ sym (row_drop c.args.bytes.now c.args.at)
+    (λ i. (c.from_le_bytes-count.ensures i, c.from_le_bytes-level.ensures i)) ∙ sym (row_drop c.args.bytes.now c.args.at)

@@ -6,7 +6,7 @@ use Rattle.table.proofs.OnlyThat.{only_that}
 use Rattle.table.proofs.Opens.{opened_whole, opened_ragged, opened_long, step_taken, step_refused}
 use Rattle.table.proofs.ReadsBack.{reads_back}
 use Rattle.table.proofs.opening.calls.open.Goals as goal
-use Rattle.table.proofs.opening.calls.open.Goals.{then-bytes-ne0-via-then-bytes-ne0, then-bytes-ne0-via-else-bytes-ne0+then-bytes-gt-MAX-BYTES, After-none-found}
+use Rattle.table.proofs.opening.calls.open.Goals.{then-bytes-ne0-via-then-bytes-ne0, then-bytes-ne0-via-else-bytes-ne0+then-bytes-gt-MAX_BYTES, After-none-found}
 
 pub returns-then-bytes-ne0 : goal.returns-then-bytes-ne0
 returns-then-bytes-ne0 c = record {
@@ -14,28 +14,28 @@ returns-then-bytes-ne0 c = record {
       ∙ sym
       (elim c.then-bytes-ne0.branch [
         | then-bytes-ne0-via-then-bytes-ne0 w ↦ opened_ragged c.args.bytes.now w.if-bytes-ne0.true
-        | then-bytes-ne0-via-else-bytes-ne0+then-bytes-gt-MAX-BYTES w ↦ opened_long c.args.bytes.now w.if-bytes-ne0.false w.if-bytes-gt-MAX-BYTES.true
+        | then-bytes-ne0-via-else-bytes-ne0+then-bytes-gt-MAX_BYTES w ↦ opened_long c.args.bytes.now w.if-bytes-ne0.false w.if-bytes-gt-MAX_BYTES.true
       ]);
   back = reads_back;
   only = only_that;
 }
 
 whole : (c : After-none-found) → opened c.args.bytes.now ≡ opened_from (length c.args.bytes.now / 512) 0 [] c.args.bytes.now
-whole c = opened_whole c.args.bytes.now c.if-bytes-ne0.false c.if-bytes-gt-MAX-BYTES.false
+whole c = opened_whole c.args.bytes.now c.if-bytes-ne0.false c.if-bytes-gt-MAX_BYTES.false
 
-pub returns-in-err-take-block : goal.returns-in-err-take-block
-returns-in-err-take-block c =
-    let p = err_from_is_err_and c.from-residual.result c.from-residual.ensures.1 in
+pub returns-in_err-take_block : goal.returns-in_err-take_block
+returns-in_err-take_block c =
+    let p = err_from_is_err_and c.from_residual.result c.from_residual.ensures.1 in
     let k = c.loop-number.number in
     let bs = c.args.bytes.now in
     record {
       answer = ap rows_answered p.1
           ∙ (ap Err p.2
           ∙ sym
-          (whole (goal.at.returns-in-err-take-block c).After-none-found
+          (whole (goal.at.returns-in_err-take_block c).After-none-found
           ∙ (sym c.loop-number.invariant
           ∙ step_refused bs _ (length bs / 512) k (open_rows c.loop-number.found) c.loop-number-test.true
-          (ap (λ n. take n (drop (512 * k) bs)) {y = 512} (omega arith)) c.take-block.result _ c.take-block.ensures.answer c.in-err-take-block.was)));
+          (ap (λ n. take n (drop (512 * k) bs)) {y = 512} (omega arith)) c.take_block.result _ c.take_block.ensures.answer c.in_err-take_block.was)));
       back = reads_back;
       only = only_that;
     }
@@ -45,10 +45,10 @@ loop-number-preserved c =
     let k = c.loop-number.number in
     let bs = c.args.bytes.now in
     let n = length bs / 512 in
-    ap (λ rs. opened_from (n - (k + 1)) (k + 1) rs (drop (512 * (k + 1)) bs)) (c.take-block.ensures.rows c.in-ok-take-block.was)
+    ap (λ rs. opened_from (n - (k + 1)) (k + 1) rs (drop (512 * (k + 1)) bs)) (c.take_block.ensures.rows c.in_ok-take_block.was)
     ∙ (sym
     (step_taken bs _ n k (open_rows c.loop-number.found) c.loop-number-test.true
-    (ap (λ m. take m (drop (512 * k) bs)) {y = 512} (omega arith)) c.take-block.result c.take-block.ensures.answer c.in-ok-take-block.was)
+    (ap (λ m. take m (drop (512 * k) bs)) {y = 512} (omega arith)) c.take_block.result c.take_block.ensures.answer c.in_ok-take_block.was)
     ∙ c.loop-number.invariant)
 
 pub returns : goal.returns

@@ -2,6 +2,6 @@ use Rattle.std.proofs.Common.{rules}
 use Rattle.table.specs.Text.{table_text}
 use Rattle.table.proofs.text.TextTable.new.Goals as goal
 
-pub invariant-of-result : goal.invariant-of-result
+pub invariant_of-result : goal.invariant_of-result
 unfolding table_text
-invariant-of-result c = search rules
+invariant_of-result c = search rules

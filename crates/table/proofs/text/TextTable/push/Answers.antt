@@ -52,26 +52,18 @@ append-requires c = let s = (goal.at.append-requires c).Start in omega (arith, s
 pub bounds-self-self : goal.bounds-self-self
 bounds-self-self c = let s = (goal.at.bounds-self-self c).Start in place s
 
-pub invariant-of-self : goal.invariant-of-self
-invariant-of-self c =
-    let s = (goal.at.invariant-of-self c).Start in
+pub invariant_of-self : goal.invariant_of-self
+invariant_of-self c =
+    let s = (goal.at.invariant_of-self c).Start in
     let new = c.append.new.self.bytes.now in
-    let end = c.append.new.self.used in (
-      length-set (rows s) (len s) (row s) ∙ c.args.self.now.places,
-      (
-        omega (arith, place s),
-        (
-          omega (arith, kept s new end c.append.ensures.bytes c.append.ensures.used, held s, c.requires.room),
-          (
-            omega (arith, c.append.ensures.used, short s),
-            (
-              spelled s new end c.append.ensures.bytes c.append.ensures.used,
-              tt,
-            ),
-          ),
-        ),
-      ),
-    )
+    let end = c.append.new.self.used in
+    record {
+      places = length-set (rows s) (len s) (row s) ∙ c.args.self.now.places;
+      few = omega (arith, place s);
+      fits = omega (arith, kept s new end c.append.ensures.bytes c.append.ensures.used, held s, c.requires.room);
+      short = omega (arith, c.append.ensures.used, short s);
+      text = spelled s new end c.append.ensures.bytes c.append.ensures.used;
+    }
 
 pub returns : goal.returns
 returns c =
