@@ -22,9 +22,9 @@ accepted g c =
     let long = length_rows (take i es) (take i ls) even in
     c.put.ensures.answer ∙ put_taken _ _ _ range (omega (arith, ap length c.loop-i.invariant.0, long, length-take-le i es (omega arith), c.loop-i.invariant.1))
 
-pub returns-in-err-put : goal.returns-in-err-put
-returns-in-err-put g c =
-    let clash : Ok tt ≡ Err c.in-err-put.field-0.0 = sym (accepted g (goal.at.returns-in-err-put g c).After-put) ∙ c.in-err-put.was in
+pub returns-in_err-put : goal.returns-in_err-put
+returns-in_err-put g c =
+    let clash : Ok tt ≡ Err c.in_err-put.field-0.0 = sym (accepted g (goal.at.returns-in_err-put g c).After-put) ∙ c.in_err-put.was in
     let z : ◌≡◌ {A = ℕ} 0 1 = cc in
     absurd (omega arith)
 
@@ -38,7 +38,7 @@ loop-i-preserved g c =
     let done = rows_of (take i es) (take i ls) in
     let row : ℕ × ℕ = ((get_or es i d).count, get_or ls i 0) in
     let more = rows_more es ls i d c.loop-i-test.true c.requires.1.0 in
-    let told = c.in-ok-put.ensures in (
+    let told = c.in_ok-put.ensures in (
       told.rows ∙ ap (λ x. x ++ row ∷ []) c.loop-i.invariant.0 ∙ sym more,
       told.room ∙ c.loop-i.invariant.1,
       told.memory ∙ (λ k. h.extended (c.loop-i.invariant.2 k) (c.loop-i.invariant.0 k) row) ∙ sym (bytes_after_more h.extended (h.memory c.args.holder.now) [] done row) ∙ ap (bytes_after h.extended (h.memory c.args.holder.now) []) (sym more),

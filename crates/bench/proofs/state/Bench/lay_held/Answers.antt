@@ -17,8 +17,8 @@ use Rattle.bench.proofs.state.Bench.lay_held.Goals as goal
 same : {X : Type 0} (xs : List X) (n : ℕ) → take (n - 0) xs ≡ take n xs
 same xs n = let e : n - 0 ≡ n = omega arith in ap (λ k. take k xs) e
 
-pub lay-rows-requires : goal.lay-rows-requires
-lay-rows-requires g c =
+pub lay_rows-requires : goal.lay_rows-requires
+lay_rows-requires g c =
     let b = c.args.self.now in
     let mem = b.list.entries.now in
     let held = b.list.held in
@@ -43,8 +43,8 @@ returns g c =
     let step = g.L.Loss.slope loss in
     let h = g.H.Holder in
     let before = c.args.holder.now in
-    let after = c.lay-rows.new.holder in
-    let told = c.lay-rows.ensures in
+    let after = c.lay_rows.new.holder in
+    let told = c.lay_rows.ensures in
     let long = length-take-le held mem (omega (arith, b.few)) in
     let rows : h.listed after ≡ laid_rows step b.top es = told.rows ∙ ap (laid_rows step b.top) (same mem held) in
     let bytes = told.memory ∙ ap (λ x. bytes_after h.extended (h.cleared (h.memory before) (h.listed before)) [] (laid_rows step b.top x)) (same mem held) in

@@ -49,15 +49,18 @@ after g c s =
     let memory = c.remove.ensures.memory ∙ memory_without_at mem held c.in-Ok.at c.args.count s.fits s.is s.order.0 s.on in
     (memory, ap (take c.remove.new.self.held) memory ∙ held_without c.args.count mem held c.remove.new.self.held s.fits c.remove.ensures.held s.on)
 
-pub invariant-of-self : goal.invariant-of-self
-invariant-of-self g c =
+pub invariant_of-self : goal.invariant_of-self
+invariant_of-self g c =
     let b = c.args.self.now in
     let mem = b.list.entries.now in
     let held = b.list.held in
     let es = take held mem in
-    let s = stands g (goal.at.invariant-of-self g c).In-Ok in
+    let s = stands g (goal.at.invariant_of-self g c).In-Ok in
     let long : length c.remove.new.self.entries.now ≡ length mem = ap length c.remove.ensures.memory ∙ length_gap_closed mem held c.in-Ok.at s.inside s.fits in
-    (omega (arith, b.few, c.remove.ensures.held, long), (∣ subst Ordered (sym (after g (goal.at.invariant-of-self g c).After-remove s).1) (ordered_without c.args.count es s.order) ∣₁, tt))
+    record {
+      few = omega (arith, b.few, c.remove.ensures.held, long);
+      order = ∣ subst Ordered (sym (after g (goal.at.invariant_of-self g c).After-remove s).1) (ordered_without c.args.count es s.order) ∣₁;
+    }
 
 pub returns : goal.returns
 returns g c =

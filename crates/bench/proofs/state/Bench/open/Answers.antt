@@ -1,5 +1,5 @@
 use Rattle.std.proofs.Common.{arith}
 use Rattle.bench.proofs.state.Bench.open.Goals as goal
 
-pub invariant-of-result : goal.invariant-of-result
-invariant-of-result g c = (omega arith, (∣ (tt, tt) ∣₁, tt))
+pub invariant_of-result : goal.invariant_of-result
+invariant_of-result g c = record { few = omega arith; order = ∣ (tt, tt) ∣₁ }

@@ -39,16 +39,19 @@ grown g c =
     let room : b.list.held < length b.list.entries.now = omega (arith, c.places.ensures) in
     ap length c.insert.ensures.memory ∙ length_memory_with (record { count = c.args.count; point = c.args.point }) b.list.entries.now b.list.held room
 
-pub invariant-of-self : goal.invariant-of-self
-invariant-of-self g c =
+pub invariant_of-self : goal.invariant_of-self
+invariant_of-self g c =
     let b = c.args.self.now in
     let mem = b.list.entries.now in
     let e : Entry g.row.P.Denot = record { count = c.args.count; point = c.args.point } in
     let es = take b.list.held mem in
-    let w = (goal.at.invariant-of-self g c).After-insert in
+    let w = (goal.at.invariant_of-self g c).After-insert in
     let long = grown g w in
-    let order : Ordered (with_point e es) = ordered_with e es c.if-count-gt-MAX-COUNT.false (new g (goal.at.invariant-of-self g c).In-Err).1 (ordered es b.order) in
-    (omega (arith, c.places.ensures, c.insert.ensures.held, long), (∣ subst Ordered (sym (went_in g w)) order ∣₁, tt))
+    let order : Ordered (with_point e es) = ordered_with e es c.if-count-gt-MAX_COUNT.false (new g (goal.at.invariant_of-self g c).In-Err).1 (ordered es b.order) in
+    record {
+      few = omega (arith, c.places.ensures, c.insert.ensures.held, long);
+      order = ∣ subst Ordered (sym (went_in g w)) order ∣₁;
+    }
 
 pub returns : goal.returns
 returns g c =
