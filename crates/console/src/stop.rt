@@ -2,7 +2,7 @@
 use answers::console::ConsoleError;
 use std::{fmt, io};
 
-#[derive(Drop)]
+#[derive(Debug, Drop)]
 pub enum Stop {
     Memory,
     Io(io::Error),

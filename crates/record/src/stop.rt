@@ -3,7 +3,7 @@ use fault::Fault;
 use std::alloc::{AllocError, AllocFailed};
 use std::io;
 
-#[derive(Drop)]
+#[derive(Debug, Drop)]
 pub enum Stop {
     Refused(Fault),
     Memory,

@@ -3,7 +3,7 @@ use answers::console::ConsoleError;
 use std::alloc::AllocError;
 use std::{fmt, io};
 
-#[derive(Drop)]
+#[derive(Debug, Drop)]
 pub enum Stop {
     Memory,
     Io(io::Error),

@@ -4,7 +4,7 @@ use std::alloc::{AllocError, AllocFailed};
 use std::num::ParseIntError;
 use std::{fmt, io};
 
-#[derive(Drop)]
+#[derive(Debug, Drop)]
 pub enum Stop {
     // The line is not of the form that is read.
     Line,

@@ -24,7 +24,7 @@ fn turns_asked(rt: &HostRuntime) -> Result<Option<u32>, Stop> {
     let Some(word) = args.next() else {
         return Ok(None);
     };
-    if word != "time" {
+    if word.as_str() != "time" {
         return Err(Stop::Usage);
     }
     match args.next() {

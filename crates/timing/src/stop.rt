@@ -5,7 +5,7 @@ use std::alloc::{AllocError, AllocFailed};
 use std::io;
 use std::num::ParseIntError;
 
-#[derive(Drop)]
+#[derive(Debug, Drop)]
 pub enum Stop {
     // The words of the call are neither none nor `time N`.
     Usage,
