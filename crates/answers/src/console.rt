@@ -60,12 +60,12 @@ fn append_answer<P: LinePoint, L: Loss<Point = P> + Copy, H: Holder>(
     number: u32,
     output: &mut Vec<u8>,
 ) -> Result<(), ConsoleError>
-    ensures output { OnOk result (output.new.items ≡ output.old.items ++ answer_text (line_answer told L.slope script.now.fields script.now.loss bench.old.top (H.room holder.old) (record { clears = H.cleared; extends = H.extended }) (standing bench.old (H.listed holder.old) (H.memory holder.old)) number line.now)) }
-    ensures after { standing bench.new (H.listed holder.new) (H.memory holder.new) ≡ line_after told L.slope script.now.fields script.now.loss bench.old.top (H.room holder.old) (record { clears = H.cleared; extends = H.extended }) (standing bench.old (H.listed holder.old) (H.memory holder.old)) number line.now }
+    ensures output { OnOk result (output.new.items ≡ output.old.items ++ answer_text (line_answer P.told L.slope script.now.fields script.now.loss bench.old.top (H.room holder.old) (record { clears = H.cleared; extends = H.extended }) (standing bench.old (H.listed holder.old) (H.memory holder.old)) number line.now)) }
+    ensures after { standing bench.new (H.listed holder.new) (H.memory holder.new) ≡ line_after P.told L.slope script.now.fields script.now.loss bench.old.top (H.room holder.old) (record { clears = H.cleared; extends = H.extended }) (standing bench.old (H.listed holder.old) (H.memory holder.old)) number line.now }
     ensures top { bench.new.top ≡ bench.old.top }
     ensures room { H.room holder.new ≡ H.room holder.old }
     ensures places { places_of (memory_of bench.new) ≡ places_of (memory_of bench.old) }
-    ensures law { (h : History P) → Kept bench.old (H.room holder.old) (H.listed holder.old) h → ((next : History P) × Entered L.cost (line_request told script.now.fields script.now.loss number line.now) (answered L.slope bench.old.top (H.room holder.old) (record { clears = H.cleared; extends = H.extended }) (standing bench.old (H.listed holder.old) (H.memory holder.old))) h next × Kept bench.new (H.room holder.new) (H.listed holder.new) next) }
+    ensures law { (h : History P) → Kept bench.old (H.room holder.old) (H.listed holder.old) h → ((next : History P) × Entered L.cost (line_request P.told script.now.fields script.now.loss number line.now) (answered L.slope bench.old.top (H.room holder.old) (record { clears = H.cleared; extends = H.extended }) (standing bench.old (H.listed holder.old) (H.memory holder.old))) h next × Kept bench.new (H.room holder.new) (H.listed holder.new) next) }
 {
     let mut answer = [0; ANSWER_BYTES];
     if let Ok(written) = answer_line(bench, holder, script, line, number, &mut answer) {
@@ -83,9 +83,9 @@ fn answer_lines<P: LinePoint, L: Loss<Point = P> + Copy, H: Holder>(
     output: &mut Vec<u8>,
 ) -> Result<(), ConsoleError>
     requires { length text.now ≤ 65536 }
-    ensures output { OnOk result (output.new.items ≡ output.old.items ++ flat_map answer_text (answers told L.cost L.slope script.now.fields script.now.loss bench.old.top (H.room holder.old) (record { clears = H.cleared; extends = H.extended }) (standing bench.old (H.listed holder.old) (H.memory holder.old)) 2 (pieces 10 text.now))) }
-    ensures after { OnOk result (standing bench.new (H.listed holder.new) (H.memory holder.new) ≡ after told L.cost L.slope script.now.fields script.now.loss bench.old.top (H.room holder.old) (record { clears = H.cleared; extends = H.extended }) (standing bench.old (H.listed holder.old) (H.memory holder.old)) 2 (pieces 10 text.now)) }
-    ensures law { OnOk result ((h : History P) → Kept bench.old (H.room holder.old) (H.listed holder.old) h → ((end : History P) × EnteredAll told L.cost L.slope script.now.fields script.now.loss bench.old.top (H.room holder.old) (record { clears = H.cleared; extends = H.extended }) (standing bench.old (H.listed holder.old) (H.memory holder.old)) 2 (pieces 10 text.now) h end × Kept bench.new (H.room holder.new) (H.listed holder.new) end)) }
+    ensures output { OnOk result (output.new.items ≡ output.old.items ++ flat_map answer_text (answers P.told L.cost L.slope script.now.fields script.now.loss bench.old.top (H.room holder.old) (record { clears = H.cleared; extends = H.extended }) (standing bench.old (H.listed holder.old) (H.memory holder.old)) 2 (pieces 10 text.now))) }
+    ensures after { OnOk result (standing bench.new (H.listed holder.new) (H.memory holder.new) ≡ after P.told L.cost L.slope script.now.fields script.now.loss bench.old.top (H.room holder.old) (record { clears = H.cleared; extends = H.extended }) (standing bench.old (H.listed holder.old) (H.memory holder.old)) 2 (pieces 10 text.now)) }
+    ensures law { OnOk result ((h : History P) → Kept bench.old (H.room holder.old) (H.listed holder.old) h → ((end : History P) × EnteredAll P.told L.cost L.slope script.now.fields script.now.loss bench.old.top (H.room holder.old) (record { clears = H.cleared; extends = H.extended }) (standing bench.old (H.listed holder.old) (H.memory holder.old)) 2 (pieces 10 text.now) h end × Kept bench.new (H.room holder.new) (H.listed holder.new) end)) }
     ensures top { bench.new.top ≡ bench.old.top }
     ensures room { H.room holder.new ≡ H.room holder.old }
     ensures places { places_of (memory_of bench.new) ≡ places_of (memory_of bench.old) }
@@ -111,8 +111,8 @@ fn answer_session<P: LinePoint, L: Loss<Point = P> + Copy>(
     output: &mut Vec<u8>,
 ) -> Result<(), ConsoleError>
     requires { (length memory.old ≡ 1024) × ((length bytes.old ≡ 15360) × (length text.now ≤ 65536)) }
-    ensures output { OnOk result (output.new.items ≡ output.old.items ++ session_text told L.cost L.slope script.now.fields script.now.loss top memory.old bytes.old (pieces 10 text.now)) }
-    ensures law { OnOk result (SessionKeeps told L.cost L.slope script.now.fields script.now.loss top memory.old bytes.old (pieces 10 text.now)) }
+    ensures output { OnOk result (output.new.items ≡ output.old.items ++ session_text P.told L.cost L.slope script.now.fields script.now.loss top memory.old bytes.old (pieces 10 text.now)) }
+    ensures law { OnOk result (SessionKeeps P.told L.cost L.slope script.now.fields script.now.loss top memory.old bytes.old (pieces 10 text.now)) }
 {
     let mut bench = Bench::open(memory, top);
     let mut table = TextTable::new(bytes);

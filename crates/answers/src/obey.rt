@@ -50,12 +50,12 @@ fn obey<P: LinePoint, L: Loss<Point = P> + Copy, H: Holder>(
     bytes: &[u8],
     number: u32,
 ) -> Answer
-    ensures answer { result ≡ line_answer told L.slope script.now.fields script.now.loss bench.old.top (H.room holder.old) (record { clears = H.cleared; extends = H.extended }) (standing bench.old (H.listed holder.old) (H.memory holder.old)) number bytes.now }
-    ensures after { standing bench.new (H.listed holder.new) (H.memory holder.new) ≡ line_after told L.slope script.now.fields script.now.loss bench.old.top (H.room holder.old) (record { clears = H.cleared; extends = H.extended }) (standing bench.old (H.listed holder.old) (H.memory holder.old)) number bytes.now }
+    ensures answer { result ≡ line_answer P.told L.slope script.now.fields script.now.loss bench.old.top (H.room holder.old) (record { clears = H.cleared; extends = H.extended }) (standing bench.old (H.listed holder.old) (H.memory holder.old)) number bytes.now }
+    ensures after { standing bench.new (H.listed holder.new) (H.memory holder.new) ≡ line_after P.told L.slope script.now.fields script.now.loss bench.old.top (H.room holder.old) (record { clears = H.cleared; extends = H.extended }) (standing bench.old (H.listed holder.old) (H.memory holder.old)) number bytes.now }
     ensures top { bench.new.top ≡ bench.old.top }
     ensures room { H.room holder.new ≡ H.room holder.old }
     ensures places { places_of (memory_of bench.new) ≡ places_of (memory_of bench.old) }
-    ensures law { (h : History P) → Kept bench.old (H.room holder.old) (H.listed holder.old) h → ((after : History P) × Entered L.cost (line_request told script.now.fields script.now.loss number bytes.now) (answered L.slope bench.old.top (H.room holder.old) (record { clears = H.cleared; extends = H.extended }) (standing bench.old (H.listed holder.old) (H.memory holder.old))) h after × Kept bench.new (H.room holder.new) (H.listed holder.new) after) }
+    ensures law { (h : History P) → Kept bench.old (H.room holder.old) (H.listed holder.old) h → ((after : History P) × Entered L.cost (line_request P.told script.now.fields script.now.loss number bytes.now) (answered L.slope bench.old.top (H.room holder.old) (record { clears = H.cleared; extends = H.extended }) (standing bench.old (H.listed holder.old) (H.memory holder.old))) h after × Kept bench.new (H.room holder.new) (H.listed holder.new) after) }
 {
     match read_request(script, bytes, number) {
         Ok(request) => answer_at(bench.serve(holder, &request), number, column(&request)),
@@ -125,13 +125,13 @@ pub fn answer_line<P: LinePoint, L: Loss<Point = P> + Copy, H: Holder>(
     number: u32,
     answer: &mut [u8],
 ) -> Result<usize, Fault>
-    ensures value { result ≡ roomy number (length answer.old) (length (answer_text (line_answer told L.slope script.now.fields script.now.loss bench.old.top (H.room holder.old) (record { clears = H.cleared; extends = H.extended }) (standing bench.old (H.listed holder.old) (H.memory holder.old)) number bytes.now))) }
-    ensures text { answer.new ≡ with_answer answer.old (line_answer told L.slope script.now.fields script.now.loss bench.old.top (H.room holder.old) (record { clears = H.cleared; extends = H.extended }) (standing bench.old (H.listed holder.old) (H.memory holder.old)) number bytes.now) }
-    ensures after { standing bench.new (H.listed holder.new) (H.memory holder.new) ≡ after_request told L.slope script.now.fields script.now.loss bench.old.top (H.room holder.old) (record { clears = H.cleared; extends = H.extended }) (standing bench.old (H.listed holder.old) (H.memory holder.old)) (roomy_request told L.slope script.now.fields script.now.loss bench.old.top (H.room holder.old) (record { clears = H.cleared; extends = H.extended }) (length answer.old) number bytes.now) }
+    ensures value { result ≡ roomy number (length answer.old) (length (answer_text (line_answer P.told L.slope script.now.fields script.now.loss bench.old.top (H.room holder.old) (record { clears = H.cleared; extends = H.extended }) (standing bench.old (H.listed holder.old) (H.memory holder.old)) number bytes.now))) }
+    ensures text { answer.new ≡ with_answer answer.old (line_answer P.told L.slope script.now.fields script.now.loss bench.old.top (H.room holder.old) (record { clears = H.cleared; extends = H.extended }) (standing bench.old (H.listed holder.old) (H.memory holder.old)) number bytes.now) }
+    ensures after { standing bench.new (H.listed holder.new) (H.memory holder.new) ≡ after_request P.told L.slope script.now.fields script.now.loss bench.old.top (H.room holder.old) (record { clears = H.cleared; extends = H.extended }) (standing bench.old (H.listed holder.old) (H.memory holder.old)) (roomy_request P.told L.slope script.now.fields script.now.loss bench.old.top (H.room holder.old) (record { clears = H.cleared; extends = H.extended }) (length answer.old) number bytes.now) }
     ensures top { bench.new.top ≡ bench.old.top }
     ensures room { H.room holder.new ≡ H.room holder.old }
     ensures places { places_of (memory_of bench.new) ≡ places_of (memory_of bench.old) }
-    ensures law { (h : History P) → Kept bench.old (H.room holder.old) (H.listed holder.old) h → ((after : History P) × Entered L.cost (roomy_request told L.slope script.now.fields script.now.loss bench.old.top (H.room holder.old) (record { clears = H.cleared; extends = H.extended }) (length answer.old) number bytes.now) (answered L.slope bench.old.top (H.room holder.old) (record { clears = H.cleared; extends = H.extended }) (standing bench.old (H.listed holder.old) (H.memory holder.old))) h after × Kept bench.new (H.room holder.new) (H.listed holder.new) after) }
+    ensures law { (h : History P) → Kept bench.old (H.room holder.old) (H.listed holder.old) h → ((after : History P) × Entered L.cost (roomy_request P.told L.slope script.now.fields script.now.loss bench.old.top (H.room holder.old) (record { clears = H.cleared; extends = H.extended }) (length answer.old) number bytes.now) (answered L.slope bench.old.top (H.room holder.old) (record { clears = H.cleared; extends = H.extended }) (standing bench.old (H.listed holder.old) (H.memory holder.old))) h after × Kept bench.new (H.room holder.new) (H.listed holder.new) after) }
 {
     check_room(answer, number)?;
     Ok(write(&obey(bench, holder, script, bytes, number), answer))

@@ -80,7 +80,7 @@ fn verb_request<P: LinePoint, L: Loss<Point = P> + Copy>(
     line: &Line<'_>,
     verb: Verb,
 ) -> Result<Request<P, L>, Fault>
-    ensures { result ≡ verb_request told script.now.fields script.now.loss line.now.number line.now.bytes.now verb }
+    ensures { result ≡ verb_request P.told script.now.fields script.now.loss line.now.number line.now.bytes.now verb }
 {
     match verb {
         Verb::Point => Ok(Request::Add(count(line)?, P::read(line)?)),
@@ -95,7 +95,7 @@ fn request<P: LinePoint, L: Loss<Point = P> + Copy>(
     script: &Script<L>,
     line: &Line<'_>,
 ) -> Result<Request<P, L>, Fault>
-    ensures { result ≡ line_request told script.now.fields script.now.loss line.now.number line.now.bytes.now }
+    ensures { result ≡ line_request P.told script.now.fields script.now.loss line.now.number line.now.bytes.now }
 {
     verb_request(script, line, verb(line, script.fields)?)
 }
@@ -106,7 +106,7 @@ pub fn read_request<P: LinePoint, L: Loss<Point = P> + Copy>(
     bytes: &[u8],
     number: u32,
 ) -> Result<Request<P, L>, Fault>
-    ensures { result ≡ line_request told script.now.fields script.now.loss number bytes.now }
+    ensures { result ≡ line_request P.told script.now.fields script.now.loss number bytes.now }
 {
     request(script, &Line::new(bytes, number))
 }

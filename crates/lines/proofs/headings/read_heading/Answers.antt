@@ -6,5 +6,5 @@ use Rattle.lines.proofs.headings.read_heading.Goals as goal
 
 pub returns : goal.returns
 returns c =
-    c.parse-heading.ensures
+    c.parse_heading.ensures
     ∙ (ap (λ q. heading_told q.0 q.1) c.new.ensures ∙ front_alike loss_of (λ _. 2) c.args.number (with_top c.args.number) c.args.bytes.now)

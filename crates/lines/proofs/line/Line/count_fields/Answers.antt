@@ -6,13 +6,13 @@ use Rattle.lines.proofs.line.Line.count_fields.Goals as goal
 pub loop-rest-smaller : goal.loop-rest-smaller
 loop-rest-smaller c =
     let some = some_left c.loop-rest.rest.now c.loop-rest-test.ensures in
-    omega (arith, some, c.split-first.ensures.lengths.1)
+    omega (arith, some, c.split_first.ensures.lengths.1)
 
 pub loop-rest-preserved : goal.loop-rest-preserved
 loop-rest-preserved c =
     let some = some_left c.loop-rest.rest.now c.loop-rest-test.ensures in (
-      omega (arith, ap length (c.split-first.ensures.pieces some), c.loop-rest.invariant.0),
-      omega (arith, some, c.split-first.ensures.lengths.1, c.loop-rest.invariant.1),
+      omega (arith, ap length (c.split_first.ensures.pieces some), c.loop-rest.invariant.0),
+      omega (arith, some, c.split_first.ensures.lengths.1, c.loop-rest.invariant.1),
     )
 
 pub returns : goal.returns

@@ -5,14 +5,14 @@ use Rattle.lines.specs.Pieces.{fields_of}
 use Rattle.lines.proofs.Sorts.{letter_is, first_none, first_some}
 use Rattle.lines.proofs.line.Line.letter.Goals as goal
 
-pub returns-in-err-field : goal.returns-in-err-field
-returns-in-err-field c =
-    c.from-residual.ensures
-    ∙ ap (λ (f : List ℕ). cond (one_letter f) (Some (get_or f 0 0)) None) (sym (first_none (fields_of c.args.self.now.bytes.now) c.in-err-field.ensures.value))
+pub returns-in_err-field : goal.returns-in_err-field
+returns-in_err-field c =
+    c.from_residual.ensures
+    ∙ ap (λ (f : List ℕ). cond (one_letter f) (Some (get_or f 0 0)) None) (sym (first_none (fields_of c.args.self.now.bytes.now) c.in_err-field.ensures.value))
 
 pub returns : goal.returns
 returns c =
-    let p = c.in-ok-field.field-0 in
+    let p = c.in_ok-field.field-0 in
     c.letter.ensures
-    ∙ (letter_is p.field c.in-ok-field.ensures.sort
-    ∙ ap (λ (f : List ℕ). cond (one_letter f) (Some (get_or f 0 0)) None) (sym (first_some (fields_of c.args.self.now.bytes.now) (placed_parts p) c.in-ok-field.ensures.value)))
+    ∙ (letter_is p.field c.in_ok-field.ensures.sort
+    ∙ ap (λ (f : List ℕ). cond (one_letter f) (Some (get_or f 0 0)) None) (sym (first_some (fields_of c.args.self.now.bytes.now) (placed_parts p) c.in_ok-field.ensures.value)))

@@ -4,14 +4,14 @@ use Rattle.std.proofs.lemmas.List.{at_drop_all}
 use Rattle.lines.proofs.Numbers.{digit_here, value_here, ten_more, ten_short}
 use Rattle.lines.proofs.line.calls.value_of.Goals as goal
 
-pub overflow-mul-n : goal.overflow-mul-n
-overflow-mul-n c = omega (arith, ten_short c.loop-digit.n c.loop-digit.digit-index c.loop-digit.invariant.1 (omega (arith, c.requires.1, c.loop-digit-test.true)))
+pub overflow_mul-n : goal.overflow_mul-n
+overflow_mul-n c = omega (arith, ten_short c.loop-digit.n c.loop-digit.digit-index c.loop-digit.invariant.1 (omega (arith, c.requires.1, c.loop-digit-test.true)))
 
-pub overflow-sub-digit : goal.overflow-sub-digit
-overflow-sub-digit c = (digit_here c.args.digits.now c.loop-digit.digit-index c.loop-digit-test.true c.loop-digit.invariant.2).0
+pub overflow_sub-digit : goal.overflow_sub-digit
+overflow_sub-digit c = (digit_here c.args.digits.now c.loop-digit.digit-index c.loop-digit-test.true c.loop-digit.invariant.2).0
 
-pub overflow-add-n : goal.overflow-add-n
-overflow-add-n c =
+pub overflow_add-n : goal.overflow_add-n
+overflow_add-n c =
     let d = digit_here c.args.digits.now c.loop-digit.digit-index c.loop-digit-test.true c.loop-digit.invariant.2 in
     omega (
       arith,
