@@ -9,13 +9,13 @@ use Rattle.answers.specs.Replies.{answer_text}
 use Rattle.answers.proofs.Openings.{lines_split, refused_text, opened_text}
 use Rattle.answers.proofs.console.answer_input.Goals as goal
 
-pub returns-in-default : goal.returns-in-default
-returns-in-default c =
-    let first = c.split-first.result.0.now in
-    let ls = pieces 10 c.split-first.result.1.now in
-    let split = sym (lines_split c.args.input.now first c.split-first.result.1.now c.split-first.ensures.piece c.split-first.ensures.rest) in
-    let told = c.in-ok-heading.ensures in
-    let end = refused_text (heading_told 1 first) ls (sym c.in-default.is ∙ told.heading) in
+pub returns-in_default : goal.returns-in_default
+returns-in_default c =
+    let first = c.split_first.result.0.now in
+    let ls = pieces 10 c.split_first.result.1.now in
+    let split = sym (lines_split c.args.input.now first c.split_first.result.1.now c.split_first.ensures.piece c.split_first.ensures.rest) in
+    let told = c.in_ok-heading.ensures in
+    let end = refused_text (heading_told 1 first) ls (sym c.in_default.is ∙ told.heading) in
     record {
       output = told.output ∙ (ap (λ x. vec_items c.args.output.now ++ x) end.0 ∙ ap (λ ps. vec_items c.args.output.now ++ lines_text ps) split);
       law = subst LinesKeep split end.1;
@@ -23,15 +23,15 @@ returns-in-default c =
 
 pub returns : goal.returns
 returns c =
-    let first = c.split-first.result.0.now in
-    let ls = pieces 10 c.split-first.result.1.now in
-    let split = sym (lines_split c.args.input.now first c.split-first.result.1.now c.split-first.ensures.piece c.split-first.ensures.rest) in
-    let told = c.in-ok-heading.ensures in
+    let first = c.split_first.result.0.now in
+    let ls = pieces 10 c.split_first.result.1.now in
+    let split = sym (lines_split c.args.input.now first c.split_first.result.1.now c.split_first.ensures.piece c.split_first.ensures.rest) in
+    let told = c.in_ok-heading.ensures in
     let h = c.in-Some.heading in
-    let r = c.answer-rest.result in
+    let r = c.answer_rest.result in
     let old = vec_items c.args.output.now in
-    let mid = vec_items c.append-heading.new.output in
-    let new = vec_items c.answer-rest.new.output in
+    let mid = vec_items c.append_heading.new.output in
+    let new = vec_items c.answer_rest.new.output in
     let go = opened_text (heading_told 1 first) h ls (sym c.in-Some.is ∙ told.heading) in
     record {
       output =
@@ -41,6 +41,6 @@ returns c =
           ∙ (ap (λ x. x ++ rest_text h.top h.loss ls) told.output
           ∙ (append_assoc old (answer_text (heading_answer (heading_told 1 first))) (rest_text h.top h.loss ls)
           ∙ (ap (λ x. old ++ x) go.0 ∙ ap (λ ps. old ++ lines_text ps) split))))
-          c.answer-rest.ensures.output;
-      law = IfOk-weaker r (λ _. RestKeeps h.top h.loss ls) (λ _. LinesKeep (lines_of c.args.input.now)) (λ _ k. subst LinesKeep split (go.1 k)) c.answer-rest.ensures.law;
+          c.answer_rest.ensures.output;
+      law = IfOk-weaker r (λ _. RestKeeps h.top h.loss ls) (λ _. LinesKeep (lines_of c.args.input.now)) (λ _ k. subst LinesKeep split (go.1 k)) c.answer_rest.ensures.law;
     }

@@ -25,19 +25,19 @@ loop-rest-preserved g c =
     let room = holder.room c.args.holder.now in
     let b = c.loop-rest.bench in
     let held = c.loop-rest.holder in
-    let b2 = c.append-answer.new.bench in
-    let held2 = c.append-answer.new.holder in
+    let b2 = c.append_answer.new.bench in
+    let held2 = c.append_answer.new.holder in
     let here = standing b (holder.listed held) (holder.memory held) in
     let there = standing b2 (holder.listed held2) (holder.memory held2) in
     let n = c.loop-rest.number in
-    let l = c.split-first.result.0.now in
-    let ls = pieces 10 c.split-first.result.1.now in
+    let l = c.split_first.result.0.now in
+    let ls = pieces 10 c.split_first.result.1.now in
     let inv = c.loop-rest.invariant in
     let some = some_left c.loop-rest.rest.now c.loop-rest-test.ensures in
-    let split = c.split-first.ensures.pieces some in
-    let more = c.in-ok-append-answer.ensures in
+    let split = c.split_first.ensures.pieces some in
+    let more = c.in_ok-append_answer.ensures in
     let moved = subst₂ (λ t r. there ≡ line_after told slope script.fields script.loss t r w here n l) inv.3 inv.4 more.after in
-    let written = subst₂ (λ t r. vec_items c.append-answer.new.output ≡ vec_items c.loop-rest.output ++ answer_text (line_answer told slope script.fields script.loss t r w here n l)) inv.3 inv.4 more.output in (
+    let written = subst₂ (λ t r. vec_items c.append_answer.new.output ≡ vec_items c.loop-rest.output ++ answer_text (line_answer told slope script.fields script.loss t r w here n l)) inv.3 inv.4 more.output in (
       text_more told cost slope script.fields script.loss top room w here there n l ls _ _ _ _ written moved split inv.0,
       after_more told cost slope script.fields script.loss top room w here there n l ls _ _ moved split inv.1,
       (λ h k.
@@ -50,7 +50,7 @@ loop-rest-preserved g c =
           )),
       more.top ∙ inv.3,
       more.room ∙ inv.4,
-      omega (arith, some, c.split-first.ensures.lengths.1, inv.5),
+      omega (arith, some, c.split_first.ensures.lengths.1, inv.5),
       more.places ∙ inv.6,
     )
 

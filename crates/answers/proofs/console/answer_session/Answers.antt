@@ -19,14 +19,14 @@ returns g c =
     let bs = c.args.bytes.now in
     let b = c.open-bench.result in
     let t = c.new-table.result in
-    let b2 = c.answer-lines.new.bench in
-    let t2 = c.answer-lines.new.holder in
+    let b2 = c.answer_lines.new.bench in
+    let t2 = c.answer_lines.new.holder in
     let ls = pieces 10 c.args.text.now in
     let start = standing b (text_rows t) (text_bytes t) in
     let end = standing b2 (text_rows t2) (text_bytes t2) in
     let opened = c.open-bench.ensures in
     let made = c.new-table.ensures in
-    let told-lines = c.in-ok-answer-lines.ensures in
+    let told-lines = c.in_ok-answer_lines.ensures in
     let same_start : start ≡ fresh mem bs = λ i. record { entries = opened.memory i; points = opened.held i; rows = made.rows i; bytes = made.bytes i } in
     let room : text_room (text_bytes t) ≡ 1024 = ap text_room made.bytes ∙ ap (λ n. min (n / 15) 1024) c.requires.1.0 in
     let places : places_of (memory_of b2) ≡ 1024 = told-lines.places ∙ (ap places_of opened.memory ∙ ap (λ n. min n 1024) c.requires.0) in
@@ -34,8 +34,8 @@ returns g c =
     record {
       output =
           session_written told cost slope script.fields script.loss b.top c.args.top (text_room (text_bytes t)) start mem bs ls end opened.top room same_start told-lines.after
-          (vec_items c.args.output.now) (vec_items c.answer-lines.new.output) _ told-lines.output
-          (c.in-ok-extend-from-slice.ensures.items ∙ ap (λ x. vec_items c.answer-lines.new.output ++ x) c.text.ensures.value);
+          (vec_items c.args.output.now) (vec_items c.answer_lines.new.output) _ told-lines.output
+          (c.in_ok-extend_from_slice.ensures.items ∙ ap (λ x. vec_items c.answer_lines.new.output ++ x) c.text.ensures.value);
       law =
           session_keeps told cost slope script.fields script.loss b.top c.args.top (text_room (text_bytes t)) start mem bs ls end opened.top room same_start told-lines.after
           (places_of (memory_of b2)) b2.top (text_room (text_bytes t2)) kept.0 places told-lines.top told-lines.room kept.1 kept.2;

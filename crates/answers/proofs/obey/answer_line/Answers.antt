@@ -27,7 +27,7 @@ returns g c =
     let slope = g.L.Loss.slope in
     let mem = c.args.answer.now in
     let request = line_request told script.fields script.loss c.args.number c.args.bytes.now in
-    let wide : leb 32 (length mem) ≡ true = room_told {X = Unit {0}} tt (leb 32 (length mem)) _ c.in-ok-check-room.ensures in
+    let wide : leb 32 (length mem) ≡ true = room_told {X = Unit {0}} tt (leb 32 (length mem)) _ c.in_ok-check_room.ensures in
     let taken = ap (λ r. and_then {X = Unit {0}} r (λ _. request)) (cond-true (leb 32 (length mem)) (Ok tt) _ wide) in
     record {
       value = ap Ok (c.write.ensures.written ∙ ap (λ a. length (answer_text a)) c.obey.ensures.answer) ∙ sym (cond-true (leb 32 (length mem)) _ _ wide);

@@ -5,27 +5,27 @@ use Rattle.answers.proofs.Lengths.{digits_16}
 use Rattle.answers.proofs.reply.Reply.of.Goals.{in-Done, in-Level, in-Refused}
 use Rattle.answers.proofs.reply.Reply.of.Goals as goal
 
-pub push-word-requires : goal.push-word-requires
-push-word-requires c =
+pub push_word-requires : goal.push_word-requires
+push_word-requires c =
     omega (
       arith,
-      ap length (c.push-in-Level.ensures ∙ c.as-slice-in-Level.ensures),
+      ap length (c.push-in-Level.ensures ∙ c.as_slice-in-Level.ensures),
       digits_16 c.from.result (omega arith),
     )
 
-pub push-refusal-requires : goal.push-refusal-requires
-push-refusal-requires c = omega (arith, ap length (c.push-in-Refused.ensures ∙ c.as-slice-in-Refused.ensures))
+pub push_refusal-requires : goal.push_refusal-requires
+push_refusal-requires c = omega (arith, ap length (c.push-in-Refused.ensures ∙ c.as_slice-in-Refused.ensures))
 
 pub push-requires-2 : goal.push-requires-2
 push-requires-2 c =
-    let end = ap length c.as-slice-2.ensures in
+    let end = ap length c.as_slice-2.ensures in
     elim c.match-answer.branch [
-      | in-Done w ↦ omega (arith, ap length (ap reply_text w.reply-is ∙ (w.push.ensures ∙ w.as-slice.ensures)))
+      | in-Done w ↦ omega (arith, ap length (ap reply_text w.reply-is ∙ (w.push.ensures ∙ w.as_slice.ensures)))
       | in-Level w ↦
           omega (
             arith,
-            simp length-append at (ap length (ap reply_text w.reply-is ∙ w.push-word.ensures)),
-            ap length (w.push-in-Level.ensures ∙ w.as-slice-in-Level.ensures),
+            simp length-append at (ap length (ap reply_text w.reply-is ∙ w.push_word.ensures)),
+            ap length (w.push-in-Level.ensures ∙ w.as_slice-in-Level.ensures),
             digits_16 w.from.result (omega arith),
           )
       | in-Refused w ↦ omega (arith, ap (λ r. length (reply_text r)) w.reply-is)

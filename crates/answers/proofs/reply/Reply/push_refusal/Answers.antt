@@ -6,36 +6,36 @@ use Rattle.answers.specs.Written.{reply_text}
 use Rattle.answers.proofs.Lengths.{layer_digit, number_digits, digits_32, four_pieces}
 use Rattle.answers.proofs.reply.Reply.push_refusal.Goals as goal
 
-pub push-word-requires : goal.push-word-requires
-push-word-requires c = omega (arith, layer_digit c.from.result c.args.question (c.from.ensures ∙ c.layer.ensures))
+pub push_word-requires : goal.push_word-requires
+push_word-requires c = omega (arith, layer_digit c.from.result c.args.question (c.from.ensures ∙ c.layer.ensures))
 
-pub push-word-requires-2 : goal.push-word-requires-2
-push-word-requires-2 c =
+pub push_word-requires-2 : goal.push_word-requires-2
+push_word-requires-2 c =
     omega (
       arith,
-      simp length-append at (ap length c.push-word.ensures),
+      simp length-append at (ap length c.push_word.ensures),
       layer_digit c.from.result c.args.question (c.from.ensures ∙ c.layer.ensures),
       number_digits c.from-2.result c.args.question (c.from-2.ensures ∙ c.number.ensures),
     )
 
-pub push-word-requires-3 : goal.push-word-requires-3
-push-word-requires-3 c =
+pub push_word-requires-3 : goal.push_word-requires-3
+push_word-requires-3 c =
     omega (
       arith,
-      simp length-append at (ap length c.push-word.ensures),
-      simp length-append at (ap length c.push-word-2.ensures),
+      simp length-append at (ap length c.push_word.ensures),
+      simp length-append at (ap length c.push_word-2.ensures),
       layer_digit c.from.result c.args.question (c.from.ensures ∙ c.layer.ensures),
       number_digits c.from-2.result c.args.question (c.from-2.ensures ∙ c.number.ensures),
       digits_32 c.args.line (omega arith),
     )
 
-pub push-word-requires-4 : goal.push-word-requires-4
-push-word-requires-4 c =
+pub push_word-requires-4 : goal.push_word-requires-4
+push_word-requires-4 c =
     omega (
       arith,
-      simp length-append at (ap length c.push-word.ensures),
-      simp length-append at (ap length c.push-word-2.ensures),
-      simp length-append at (ap length c.push-word-3.ensures),
+      simp length-append at (ap length c.push_word.ensures),
+      simp length-append at (ap length c.push_word-2.ensures),
+      simp length-append at (ap length c.push_word-3.ensures),
       layer_digit c.from.result c.args.question (c.from.ensures ∙ c.layer.ensures),
       number_digits c.from-2.result c.args.question (c.from-2.ensures ∙ c.number.ensures),
       digits_32 c.args.line (omega arith),
@@ -52,21 +52,21 @@ returns c =
           (word (number_of c.args.question))
           (word c.args.line)
           (word c.args.column)
-          (reply_text c.push-word.new.self)
-          (reply_text c.push-word-2.new.self)
-          (reply_text c.push-word-3.new.self)
-          (reply_text c.push-word-4.new.self)
-          (c.push-word.ensures ∙ ap (λ n. reply_text c.args.self.now ++ word n) (c.from.ensures ∙ c.layer.ensures))
-          (c.push-word-2.ensures ∙ ap (λ n. reply_text c.push-word.new.self ++ word n) (c.from-2.ensures ∙ c.number.ensures))
-          c.push-word-3.ensures
-          c.push-word-4.ensures;
+          (reply_text c.push_word.new.self)
+          (reply_text c.push_word-2.new.self)
+          (reply_text c.push_word-3.new.self)
+          (reply_text c.push_word-4.new.self)
+          (c.push_word.ensures ∙ ap (λ n. reply_text c.args.self.now ++ word n) (c.from.ensures ∙ c.layer.ensures))
+          (c.push_word-2.ensures ∙ ap (λ n. reply_text c.push_word.new.self ++ word n) (c.from-2.ensures ∙ c.number.ensures))
+          c.push_word-3.ensures
+          c.push_word-4.ensures;
       short =
           omega (
             arith,
-            simp length-append at (ap length c.push-word.ensures),
-            simp length-append at (ap length c.push-word-2.ensures),
-            simp length-append at (ap length c.push-word-3.ensures),
-            simp length-append at (ap length c.push-word-4.ensures),
+            simp length-append at (ap length c.push_word.ensures),
+            simp length-append at (ap length c.push_word-2.ensures),
+            simp length-append at (ap length c.push_word-3.ensures),
+            simp length-append at (ap length c.push_word-4.ensures),
             layer_digit c.from.result c.args.question (c.from.ensures ∙ c.layer.ensures),
             number_digits c.from-2.result c.args.question (c.from-2.ensures ∙ c.number.ensures),
             digits_32 c.args.line (omega arith),

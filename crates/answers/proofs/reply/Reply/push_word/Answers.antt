@@ -7,7 +7,7 @@ push-requires-2 c =
     omega (
       arith,
       simp length-append at (ap length c.push.ensures),
-      ap length c.as-slice.ensures,
+      ap length c.as_slice.ensures,
       ap length (c.text.ensures ∙ c.of.ensures),
     )
 
