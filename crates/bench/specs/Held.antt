@@ -78,6 +78,6 @@ rows_of [] ls = []
 rows_of (e ∷ es) [] = []
 rows_of (e ∷ es) (l ∷ ls) = (e.count, l) ∷ rows_of es ls
 
--- the rows of a lay: each point's count with its max_min level
+-- the rows of a lay: each point's count with its max-min level
 abbrev pub laid_rows : {P : Type 0} → (P → ℕ → ℤ) → ℕ → List (Entry P) → List (ℕ × ℕ)
 laid_rows step top es = rows_of es (fitted step top (points_of es))

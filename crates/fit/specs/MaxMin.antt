@@ -1,4 +1,4 @@
--- The levels of a fit: at each point the max_min value of isotonic regression, with the best whole level of a run in
+-- The levels of a fit: at each point the max-min value of isotonic regression, with the best whole level of a run in
 -- the place of its mean. Assumes nothing.
 use Rattle.std.specs.Prelude.{ℕ, zero, suc, ◌-◌, min, max, List, map, length, take, drop, ℤ}
 use Rattle.std.specs.List.{range_with_len}
