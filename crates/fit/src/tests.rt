@@ -47,10 +47,16 @@ fn squares_by_hand(rt: HostRuntime) -> Result<(), Fail> {
 fn other_losses_by_hand(rt: HostRuntime) -> Result<(), Fail> {
     let heap = rt.alloc();
     let entries = readings(heap, &[(5, 1), (2, 1), (4, 1)])?;
-    assert_eq!(rt; levels(heap, &Absolute, &entries)?.as_slice(), &[2, 2, 4]);
+    assert_eq!(rt;
+        levels(heap, &Absolute, &entries)?.as_slice(),
+        [2u16, 2, 4].as_slice()
+    );
     let entries = readings(heap, &[(9, 1), (1, 1), (1, 1)])?;
     let limited = PullLimit::new(Squares, 3);
-    assert_eq!(rt; levels(heap, &limited, &entries)?.as_slice(), &[2, 2, 2]);
+    assert_eq!(rt;
+        levels(heap, &limited, &entries)?.as_slice(),
+        [2u16, 2, 2].as_slice()
+    );
     let older = Band::new(6, 9, 1).ok().ok_or("no band")?;
     let newer = Band::new(2, 4, 1).ok().ok_or("no band")?;
     let entries = [
@@ -63,7 +69,10 @@ fn other_losses_by_hand(rt: HostRuntime) -> Result<(), Fail> {
             point: newer,
         },
     ];
-    assert_eq!(rt; levels(heap, &Bands, &entries)?.as_slice(), &[4, 4]);
+    assert_eq!(rt;
+        levels(heap, &Bands, &entries)?.as_slice(),
+        [4u16, 4].as_slice()
+    );
     Ok(())
 }
 

@@ -112,6 +112,6 @@ mod tests {
             ),
             (4, 4, 5)
         );
-        assert_eq!(rt; PullLimitLoss::<Bands>::FIELDS, 5);
+        assert_eq!(rt; <PullLimit<Bands> as Loss>::FIELDS, 5);
     }
 }
