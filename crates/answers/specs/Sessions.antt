@@ -1,5 +1,5 @@
 -- What the lines of a whole input come to. Assumes nothing.
-use Rattle.std.specs.Prelude.{◌≡◌, ℕ, ◌+◌, List, [], ◌∷◌, ◌++◌, ℤ, Result}
+use Rattle.std.specs.Prelude.{◌≡◌, ℕ, ◌+◌, List, [], ◌∷◌, ℤ, Result}
 use Rattle.fault.specs.declared.Fault.{Fault}
 use Rattle.bench.specs.declared.runs.Answer.{Answer}
 use Rattle.bench.specs.Runs.{History}

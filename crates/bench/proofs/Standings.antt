@@ -1,5 +1,5 @@
 -- One request more. Assumes nothing.
-use Rattle.std.proofs.Common.{◌≡◌, ℕ, suc, List, [], ◌∷◌, ◌++◌, length, ℤ, refl, ap, ◌∙◌}
+use Rattle.std.proofs.Common.{◌≡◌, ℕ, suc, List, [], ◌∷◌, ◌++◌, length, ℤ, refl, ap}
 use Rattle.bench.specs.declared.runs.Request.{Request}
 use Rattle.bench.specs.Served.{Standing, Writing, answered, served, answered_all, served_all}
 

@@ -1,17 +1,15 @@
 -- Each call keeps the promises. Assumes nothing.
-use Rattle.std.proofs.Common.{◌≡◌, ℕ, zero, suc, ◌<◌, ◌≤◌, Bool, true, false, List, [], ◌∷◌, map, length, get_or, ℤ, is_ok, Ok, Err, Result, sym, refl, ap, ◌∙◌, subst, ⊎_elim, arith}
+use Rattle.std.proofs.Common.{◌≡◌, ℕ, zero, suc, ◌<◌, ◌≤◌, true, List, [], ◌∷◌, map, length, get_or, ℤ, is_ok, Ok, Err, Result, sym, refl, ap, ◌∙◌, subst, arith}
 use Rattle.std.specs.List.{AllByRecursion as All}
-use Rattle.std.proofs.ByRecursion.{All-get_or, All-weaker}
+use Rattle.std.proofs.ByRecursion.{All-weaker}
 use Rattle.std.proofs.lemmas.List.{get_or-map, length-map}
-use Rattle.std.proofs.lemmas.Bool.{cases_lt}
 use Rattle.fault.specs.declared.Fault.{Fault}
-use Rattle.fit.specs.Cheapest.{NeverFalls, LeastCheapest}
-use Rattle.fit.specs.Entries.{points_of}
+use Rattle.fit.specs.Cheapest.{NeverFalls}
 use Rattle.fit.specs.declared.Entry.{Entry}
 use Rattle.table.specs.Convert.{conversion, Rising, Orderly}
 use Rattle.table.specs.Rows.{once_accepted, count_at, level_at}
 use Rattle.bench.specs.Held.{with_point, without, RisingCounts, add_answer, drop_answer, lay_answer}
-use Rattle.bench.specs.Runs.{Event, History, held_after, table_after, noted, converted_since, TableOf, InOrder, Right, Lawful, Keeps}
+use Rattle.bench.specs.Runs.{History, held_after, table_after, converted_since, TableOf, InOrder, Lawful, Keeps}
 use Rattle.bench.specs.Runs.Event.{added, dropped, laid, converted}
 
 module _ {P : Type 0} (places top room : ℕ) where

@@ -3,7 +3,6 @@ use Rattle.std.specs.Prelude.{ℕ, suc, ◌+◌, ◌-◌, ◌<◌, ◌≤◌, mi
 use Rattle.std.specs.List.{AllByRecursion as All}
 use Rattle.fault.specs.Asked.{asked}
 use Rattle.fault.specs.declared.Fault.{Fault}
-use Rattle.fault.specs.declared.Question.{Question}
 use Rattle.fault.specs.declared.Question.TheVariants.{AddCount, AddTwice, AddFull, DropNone, LayNone, LayRoom}
 use Rattle.fit.specs.Entries.{points_of}
 use Rattle.fit.specs.MaxMin.{fitted}

@@ -3,12 +3,12 @@
 use Rattle.std.proofs.Common.{◌≡◌, ℕ, zero, suc, ◌-◌, ◌<◌, ◌≤◌, List, [], ◌∷◌, ◌++◌, length, replicate, ℤ, pos, ◌+ℤ◌, sym, refl, ap, ◌∙◌, subst, ⊎_elim, append_assoc, append-nil, arith, length-append}
 use lib.ListN.{length-replicate}
 use Rattle.std.specs.List.{AllByRecursion as All}
-use Rattle.std.proofs.ByRecursion.{All-append, All-weaker}
+use Rattle.std.proofs.ByRecursion.{All-append}
 use Rattle.std.proofs.lemmas.Int.{ints}
 use Rattle.std.proofs.lemmas.Bool.{cases_lt}
 use Rattle.fit.specs.Best.{total}
 use Rattle.fit.specs.Cheapest.{NeverFalls, Table}
-use Rattle.fit.specs.Pooling.{Fronts, Backs, Pooled, level_of, spread, Covers, Ends, Stacked}
+use Rattle.fit.specs.Pooling.{Fronts, Backs, level_of, spread, Covers, Ends, Stacked}
 use Rattle.fit.specs.declared.Block.{Block}
 use Rattle.fit.proofs.Signs.{fronts_under, fronts_append, fronts_most, backs_over, backs_append, backs_total}
 

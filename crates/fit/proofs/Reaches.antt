@@ -1,14 +1,13 @@
 -- Levels that cut the points at every level below top are the max-min values. Assumes nothing.
-use Rattle.std.proofs.Common.{◌≡◌, ℕ, zero, suc, ◌+◌, ◌-◌, ◌<◌, ◌≤◌, min, max, List, [], ◌∷◌, ◌++◌, map, length, get_or, take, drop, ℤ, pos, sym, refl, ap, ◌∙◌, subst, ⊎_elim, arith, length-append}
-use Rattle.std.specs.List.{range_with_len, AllByRecursion as All}
+use Rattle.std.proofs.Common.{◌≡◌, ℕ, zero, suc, ◌+◌, ◌-◌, ◌<◌, ◌≤◌, List, ◌++◌, length, get_or, take, drop, ℤ, pos, refl, ap, ◌∙◌, subst, ⊎_elim, arith, length-append}
+use Rattle.std.specs.List.{AllByRecursion as All}
 use Rattle.std.proofs.lemmas.List.FromFn.{fill_by_all}
 use Rattle.std.proofs.ByRecursion.{All-get_or}
 use Rattle.std.proofs.lemmas.List.{length-drop, get_or_append_left, get_or-append_right, take_at, drop_at, drop-append-le}
 use Rattle.std.proofs.lemmas.Int.{ints}
 use Rattle.std.proofs.lemmas.Bool.{cases_lt}
-use Rattle.fit.specs.Best.{total, summed_step, best_level}
+use Rattle.fit.specs.Best.{total, best_level}
 use Rattle.fit.specs.MaxMin.{part, least, greatest, max_min, fitted}
-use Rattle.fit.specs.Pooling.{Best}
 use Rattle.fit.proofs.Bests.{Rises, best_is}
 use Rattle.fit.proofs.Cuts.{Cut}
 use Rattle.fit.proofs.Signs.{fronts_take, backs_drop}

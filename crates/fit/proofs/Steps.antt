@@ -1,15 +1,15 @@
 -- What entering a point and pooling two blocks make of the stack. Assumes nothing.
-use Rattle.std.proofs.Common.{◌≡◌, ℕ, zero, suc, ◌+◌, ◌-◌, ◌<◌, ◌≤◌, Bool, true, false, cond, ltb, List, [], ◌∷◌, ◌++◌, length, get_or, take, drop, ℤ, pos, Some, None, Option, sym, refl, ap, ◌∙◌, subst, subst₂, ⊎_elim, append_assoc, append-nil, arith, length-append}
+use Rattle.std.proofs.Common.{◌≡◌, ℕ, zero, suc, ◌+◌, ◌-◌, ◌<◌, ◌≤◌, true, false, ltb, List, [], ◌∷◌, ◌++◌, length, get_or, take, drop, ℤ, pos, Some, None, sym, refl, ap, ◌∙◌, subst, subst₂, ⊎_elim, append_assoc, append-nil, arith, length-append}
 use Rattle.std.proofs.lemmas.List.{length-map, length-drop, length-take-le, take-append-drop, map-append}
 use Rattle.std.proofs.lemmas.Bool.{cases_Bool, ltb-true, ltb-false, cond-true, cond-false}
 use Rattle.fit.specs.Best.{summed_step, first_up, best_level}
 use Rattle.fit.specs.Entries.{points_of}
-use Rattle.fit.specs.Pooling.{Best, Pooled, pile, level_of, falling_two, Ends, Stacked, Entered}
+use Rattle.fit.specs.Pooling.{Best, pile, falling_two, Stacked, Entered}
 use Rattle.fit.specs.declared.Block.{Block}
 use Rattle.fit.specs.declared.Entry.{Entry}
 use Rattle.fit.proofs.Bests.{Rises, best_is}
 use Rattle.fit.proofs.Merge.{pooled_one, pooled_both, joint_best}
-use Rattle.fit.proofs.Runs.{points_more, points_between}
+use Rattle.fit.proofs.Runs.{points_between}
 
 -- the two newest blocks where the newest is lower
 pub record Falls (bs : List Block) (n : ℕ) (a b : Block) : Type 0 where

@@ -1,5 +1,5 @@
 -- A number that was read is in its range. Assumes nothing.
-use Rattle.std.proofs.Common.{◌≡◌, ℕ, ◌≤◌, Bool, true, false, cond, ◌&&◌, leb, List, [], ◌∷◌, is_ok, Some, None, Ok, Err, Option, Result, sym, refl, ap, ◌∙◌, subst, arith}
+use Rattle.std.proofs.Common.{◌≡◌, ℕ, ◌≤◌, Bool, true, false, ◌&&◌, leb, List, [], ◌∷◌, is_ok, Some, None, Ok, Err, Option, refl, ap, ◌∙◌, subst}
 use Rattle.std.specs.Str.Parse.{digits_value}
 use Rattle.std.specs.Result.{result_unwrap_or}
 use Rattle.std.specs.List.{slice_get}
@@ -9,8 +9,6 @@ use Rattle.fault.specs.declared.Fault.{Fault}
 use Rattle.fault.specs.declared.Question.{Question}
 use Rattle.fault.specs.declared.Question.TheVariants.{NumberDigits, NumberForm, PointRange}
 use Rattle.fault.specs.Asked.{asked_at}
-use Rattle.loss.specs.declared.readings.Reading.{Reading}
-use Rattle.loss.specs.declared.spans.Band.{Band}
 use Rattle.loss.specs.Points.{reading_of, band_of, level_fits, weight_fits}
 use Rattle.lines.specs.Fields.{short_form, number_from, number_at}
 use Rattle.lines.specs.Pieces.{fields_at}

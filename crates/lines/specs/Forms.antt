@@ -1,6 +1,5 @@
 -- Which lines are read at all. Assumes nothing.
-use Rattle.std.specs.Prelude.{ℕ, List, [], ◌∷◌, length, Option, Result, nat_le}
-use Rattle.std.specs.Option.{option_map}
+use Rattle.std.specs.Prelude.{ℕ, List, [], ◌∷◌, length, Result, nat_le}
 use Rattle.fault.specs.declared.Fault.{Fault}
 use Rattle.fault.specs.declared.Question.TheVariants.{LineLength, LineSpacing}
 use Rattle.fault.specs.Asked.{asked_at}

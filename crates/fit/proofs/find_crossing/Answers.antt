@@ -1,9 +1,8 @@
-use Rattle.std.proofs.Common.{◌≡◌, ℕ, ◌+◌, ◌^◌, ◌<◌, ◌≤◌, List, ℤ, pos, ◌≤ℤ◌, ◌<ℤ◌, sym, subst₂, arith}
+use Rattle.std.proofs.Common.{◌≡◌, ◌^◌, pos, ◌≤ℤ◌, ◌<ℤ◌, sym, subst₂, arith}
 use Rattle.std.proofs.lemmas.Int.{ints}
 use Rattle.fit.specs.Best.{summed_step}
 use Rattle.fit.specs.Entries.{points_of}
 use Rattle.fit.proofs.Bests.{Narrowed, narrowed_up, narrowed_down, narrowed_end}
-use Rattle.fit.proofs.find_crossing.Given as given
 use Rattle.fit.proofs.find_crossing.Goals as goal
 use Rattle.fit.proofs.find_crossing.Goals.{then-sum-lt0, else-sum-lt0}
 

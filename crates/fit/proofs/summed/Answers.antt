@@ -1,4 +1,4 @@
-use Rattle.std.proofs.Common.{ap, ◌∙◌, arith, take_all, rules}
+use Rattle.std.proofs.Common.{ap, ◌∙◌, arith, take_all}
 use Rattle.std.proofs.lemmas.Int.{ints}
 use Rattle.fit.specs.Best.{summed_step}
 use Rattle.fit.specs.Entries.{points_of}

@@ -1,8 +1,7 @@
-use Rattle.std.proofs.Common.{◌≡◌, ◌+◌, List, [], ◌++◌, length, vec_items, sym, refl, ap, ◌∙◌, subst, subst₂, arith}
+use Rattle.std.proofs.Common.{◌≡◌, ◌++◌, vec_items, sym, refl, ap, ◌∙◌, subst, subst₂, arith}
 use Rattle.std.specs.List.{flat_map}
 use Rattle.std.proofs.lemmas.List.{append-nil}
-use Rattle.bench.specs.Runs.{History}
-use Rattle.bench.specs.Served.{Standing, Writing, answered}
+use Rattle.bench.specs.Served.{Writing, answered}
 use Rattle.bench.specs.State.{standing, Kept}
 use Rattle.answers.specs.Obeyed.{Entered, line_answer, line_after}
 use Rattle.lines.specs.Pieces.{pieces}

@@ -1,9 +1,8 @@
-use Rattle.std.proofs.Common.{◌≡◌, ℕ, ◌/◌, min, List, [], ◌++◌, length, vec_items, sym, refl, ap, ◌∙◌, subst}
+use Rattle.std.proofs.Common.{◌≡◌, ◌/◌, min, [], ◌++◌, vec_items, sym, ap, ◌∙◌, subst}
 use Rattle.table.specs.Lent.{text_rows, text_bytes}
 use Rattle.table.specs.Text.{text_room}
 use Rattle.bench.specs.Held.{places_of}
-use Rattle.bench.specs.Served.{Standing}
-use Rattle.bench.specs.State.{memory_of, held_of, standing, Kept}
+use Rattle.bench.specs.State.{memory_of, standing, Kept}
 use Rattle.answers.specs.Console.{fresh}
 use Rattle.lines.specs.Pieces.{pieces}
 use Rattle.answers.proofs.Fresh.{session_written, session_keeps}

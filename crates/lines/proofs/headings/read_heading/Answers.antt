@@ -1,4 +1,4 @@
-use Rattle.std.proofs.Common.{◌≡◌, ap, ◌∙◌}
+use Rattle.std.proofs.Common.{ap, ◌∙◌}
 use Rattle.lines.specs.Headings.{with_top, heading_told}
 use Rattle.lines.specs.Letters.{loss_of}
 use Rattle.lines.proofs.Heads.{front_alike}

@@ -1,4 +1,4 @@
-use Rattle.std.proofs.Common.{◌≡◌, ap, ◌∙◌}
+use Rattle.std.proofs.Common.{ap, ◌∙◌}
 use Rattle.lines.specs.Letters.{verb_of, verb_fields}
 use Rattle.lines.specs.Requests.{verb_request, line_request}
 use Rattle.lines.proofs.Heads.{front_alike}

@@ -1,4 +1,4 @@
-use Rattle.std.proofs.Common.{◌≡◌, ℕ, ◌-◌, ◌<◌, ◌≤◌, List, [], length, take, Ok, sym, refl, ap, ◌∙◌, subst, arith}
+use Rattle.std.proofs.Common.{◌≡◌, ℕ, ◌-◌, ◌<◌, ◌≤◌, List, [], length, take, Ok, sym, ap, ◌∙◌, subst, arith}
 use Rattle.std.specs.List.{AllByRecursion as All}
 use Rattle.std.proofs.lemmas.List.{length-take-le}
 use Rattle.std.proofs.lemmas.Bool.{cond-true, lt-ltb, le-leb}
@@ -11,7 +11,6 @@ use Rattle.bench.specs.Held.{laid_rows, lay_answer}
 use Rattle.bench.specs.Runs.{TableOf}
 use Rattle.bench.proofs.Orders.{ordered}
 use Rattle.bench.proofs.Rowed.{laid_table}
-use Rattle.bench.proofs.state.Bench.lay_held.Given as given
 use Rattle.bench.proofs.state.Bench.lay_held.Goals as goal
 
 same : {X : Type 0} (xs : List X) (n : ℕ) → take (n - 0) xs ≡ take n xs

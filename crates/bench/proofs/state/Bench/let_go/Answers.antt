@@ -1,10 +1,10 @@
-use Rattle.std.proofs.Common.{◌≡◌, ℕ, ◌+◌, ◌<◌, ◌≤◌, min, true, false, List, length, take, sym, refl, ap, ◌∙◌, subst, arith}
+use Rattle.std.proofs.Common.{◌≡◌, ℕ, ◌<◌, ◌≤◌, min, true, List, length, take, sym, refl, ap, ◌∙◌, subst, arith}
 use Rattle.std.proofs.lemmas.List.{length-take-le}
 use Rattle.std.proofs.lemmas.Bool.Decides.{nat_tests}
 use Rattle.fit.specs.declared.Entry.{Entry}
 use Rattle.bench.specs.Held.{holds, without, below_count, Ordered, memory_without}
 use Rattle.bench.proofs.Orders.{ordered, ordered_without, held_without, length_gap_closed}
-use Rattle.bench.proofs.Places.{below_length, present, without_at, memory_without_at}
+use Rattle.bench.proofs.Places.{present, without_at, memory_without_at}
 use Rattle.bench.proofs.state.Bench.let_go.Given as given
 use Rattle.bench.proofs.state.Bench.let_go.Goals as goal
 use Rattle.bench.proofs.state.Bench.let_go.Goals.{In-Ok, After-remove}

@@ -1,4 +1,4 @@
-use Rattle.std.proofs.Common.{◌≡◌, List, [], ◌++◌, take, drop}
+use Rattle.std.proofs.Common.{◌≡◌, [], ◌++◌, take, drop}
 use Rattle.bench.specs.Runs.{History}
 use Rattle.bench.specs.Served.{Writing, answered_all, served_all}
 use Rattle.bench.specs.State.{held_of, standing, Kept}

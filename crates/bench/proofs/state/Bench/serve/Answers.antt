@@ -1,12 +1,9 @@
-use Rattle.std.proofs.Common.{◌≡◌, List, [], take, sym, refl, ap, ◌∙◌, subst, subst₂}
+use Rattle.std.proofs.Common.{◌≡◌, [], sym, refl, ap, ◌∙◌, subst, subst₂}
 use Rattle.fit.specs.declared.Entry.{Entry}
 use Rattle.table.specs.Rows.{once_accepted, bytes_after}
-use Rattle.bench.specs.declared.runs.Answer.{Answer}
-use Rattle.bench.specs.declared.runs.Request.{Request}
 use Rattle.bench.specs.Held.{with_point, without, memory_with, memory_without, laid_rows}
-use Rattle.bench.specs.Runs.{Event}
 use Rattle.bench.specs.Runs.Event.{added, dropped, laid, converted}
-use Rattle.bench.specs.Served.{Standing, Writing, answered, served}
+use Rattle.bench.specs.Served.{Writing, answered, served}
 use Rattle.bench.specs.State.{held_of, memory_of, standing}
 use Rattle.bench.specs.Told.{Told, done_answer, level_answer}
 use Rattle.bench.specs.Told.Told.{told_add, told_drop, told_lay, told_convert}

@@ -1,8 +1,8 @@
-use Rattle.std.proofs.Common.{◌≡◌, ℕ, ◌+◌, ◌<◌, ◌≤◌, min, true, false, List, length, take, sym, refl, ap, ◌∙◌, subst, arith}
+use Rattle.std.proofs.Common.{◌≡◌, ◌<◌, min, false, length, take, sym, refl, ap, ◌∙◌, subst, arith}
 use Rattle.std.proofs.lemmas.List.{length-take-le}
 use Rattle.std.proofs.lemmas.Bool.Decides.{nat_tests}
 use Rattle.fit.specs.declared.Entry.{Entry}
-use Rattle.bench.specs.Held.{holds, with_point, below_count, Ordered, memory_with}
+use Rattle.bench.specs.Held.{holds, with_point, below_count, Ordered}
 use Rattle.bench.proofs.Orders.{ordered, ordered_with, held_with, length_memory_with}
 use Rattle.bench.proofs.Places.{below_length, absent}
 use Rattle.bench.proofs.state.Bench.take_in.Given as given

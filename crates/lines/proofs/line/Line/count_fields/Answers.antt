@@ -1,4 +1,4 @@
-use Rattle.std.proofs.Common.{◌≡◌, length, sym, ap, ◌∙◌, arith}
+use Rattle.std.proofs.Common.{◌≡◌, length, ap, arith}
 use Rattle.lines.specs.Pieces.{fields_of}
 use Rattle.lines.proofs.Cuts.{none_left, some_left}
 use Rattle.lines.proofs.line.Line.count_fields.Goals as goal

@@ -1,6 +1,6 @@
-use Rattle.std.proofs.Common.{◌≡◌, ℕ, suc, ◌+◌, ◌-◌, true, false, cond, List, [], ◌∷◌, length, Some, sym, refl, ap, ◌∙◌, subst, arith}
+use Rattle.std.proofs.Common.{suc, ◌-◌, Some, sym, ap, ◌∙◌, subst, arith}
 use Rattle.std.specs.List.{slice_get}
-use Rattle.lines.specs.Fields.{field_of, field_bytes, RightCase}
+use Rattle.lines.specs.Fields.{field_bytes, RightCase}
 use Rattle.lines.specs.Pieces.{fields_of, placed}
 use Rattle.lines.proofs.Cuts.{none_left, some_left}
 use Rattle.lines.proofs.Sorts.{bytes_of_field, right_case}

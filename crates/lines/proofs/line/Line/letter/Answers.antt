@@ -1,4 +1,4 @@
-use Rattle.std.proofs.Common.{◌≡◌, ℕ, cond, List, [], get_or, Some, None, sym, ap, ◌∙◌}
+use Rattle.std.proofs.Common.{ℕ, cond, List, get_or, Some, None, sym, ap, ◌∙◌}
 use Rattle.lines.specs.Fields.{one_letter}
 use Rattle.lines.specs.Forms.{placed_parts}
 use Rattle.lines.specs.Pieces.{fields_of}

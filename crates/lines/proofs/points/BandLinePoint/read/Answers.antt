@@ -1,4 +1,4 @@
-use Rattle.std.proofs.Common.{◌≡◌, leb, [], ◌∷◌, sym, ap, ◌∙◌}
+use Rattle.std.proofs.Common.{leb, [], ◌∷◌, sym, ap, ◌∙◌}
 use Rattle.std.specs.List.{slice_get}
 use Rattle.std.proofs.lemmas.Bool.{cond-true, le-leb}
 use Rattle.fault.specs.Asked.{asked_at}

@@ -1,4 +1,4 @@
-use Rattle.std.proofs.Common.{◌≡◌, Ok, sym, ap, ◌∙◌, arith}
+use Rattle.std.proofs.Common.{Ok, sym, ap, ◌∙◌}
 use Rattle.lines.specs.Reads.{and_then}
 use Rattle.lines.specs.Fields.{number_at}
 use Rattle.lines.proofs.Ranges.{number_in_range, reading_made}

@@ -2,7 +2,7 @@ use Rattle.std.proofs.Common.{◌≡◌, ◌+◌, ◌-◌, ◌≤◌, true, ◌&
 use Rattle.std.proofs.lemmas.List.{length-take-le, take_rest}
 use Rattle.std.proofs.lemmas.Bool.{eq-eqb, ne_eqb}
 use Rattle.fault.specs.declared.Question.TheVariants.{OpenOrder}
-use Rattle.table.specs.Opening.{rows_read, block_rows, least_after, first_stray, sums_right, count_right, body_right, in_block}
+use Rattle.table.specs.Opening.{rows_read, block_rows, least_after, first_stray, count_right, body_right, in_block}
 use Rattle.table.specs.Opened.{open_rows}
 use Rattle.table.proofs.Asks.{refused_not, fresh_rows, length_rows_read, stray_le, answer_sums, answer_layout, answer_order, answer_taken}
 use Rattle.table.proofs.opening.OpenRows.take_block.Goals as goal
