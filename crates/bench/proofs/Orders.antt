@@ -3,14 +3,14 @@ use Rattle.std.proofs.Common.{◌≡◌, ℕ, suc, ◌+◌, ◌-◌, ◌<◌, �
 use mathlib.Core.HLevel.{Unit-prop, ×_prop}
 use mathlib.Core.Logic.{∥∥₁_elim}
 use native.Mathlib.Bridge.{le_prop}
-use Rattle.std.specs.List.{AllByRecursion as All}
+use Rattle.std.specs.List.{AllByRecursion}
 use Rattle.std.proofs.ByRecursion.{All-weaker}
 use Rattle.std.proofs.lemmas.List.{take_at, length-take-le}
 use Rattle.std.proofs.lemmas.Bool.{both_ways, cases_lt, cases_eq, lt-ltb, le-ltb, eq-eqb, ne_eqb, or_parts, eqb-false, cond-true, cond-false}
 use Rattle.fit.specs.declared.Entry.{Entry}
 use Rattle.bench.specs.Held.{holds, with_point, without, RisingCounts, Ordered, gap_closed, memory_with, memory_without}
 
-all_prop : {X : Type 0} (Q : X → Type 0) → ((x : X) → IsProp (Q x)) → (xs : List X) → IsProp (All Q xs)
+all_prop : {X : Type 0} (Q : X → Type 0) → ((x : X) → IsProp (Q x)) → (xs : List X) → IsProp (AllByRecursion Q xs)
 all_prop Q h [] = Unit-prop
 all_prop Q h (x ∷ xs) = ×_prop (h x) (all_prop Q h xs)
 
@@ -23,20 +23,20 @@ pub ordered : {P : Type 0} (es : List (Entry P)) → ∥ Ordered es ∥₁ → O
 ordered es t = ∥∥₁_elim t (×_prop (rising_prop es) (all_prop (λ x. x.count ≤ 16777215) (λ x. le_prop) es)) (λ o. o)
 
 module _ {P : Type 0} where
-  all_with : (Q : Entry P → Type 0) (e : Entry P) (es : List (Entry P)) → Q e → All Q es → All Q (with_point e es)
+  all_with : (Q : Entry P → Type 0) (e : Entry P) (es : List (Entry P)) → Q e → AllByRecursion Q es → AllByRecursion Q (with_point e es)
   all_with Q e [] q a = (q, tt)
   all_with Q e (x ∷ es) q a =
       ⊎_elim
-      (λ (lt : x.count < e.count). subst (All Q) (sym (cond-true (ltb x.count e.count) _ _ (lt-ltb x.count e.count lt))) (a.0, all_with Q e es q a.1))
-      (λ (ge : e.count ≤ x.count). subst (All Q) (sym (cond-false (ltb x.count e.count) _ _ (le-ltb x.count e.count ge))) (q, a))
+      (λ (lt : x.count < e.count). subst (AllByRecursion Q) (sym (cond-true (ltb x.count e.count) _ _ (lt-ltb x.count e.count lt))) (a.0, all_with Q e es q a.1))
+      (λ (ge : e.count ≤ x.count). subst (AllByRecursion Q) (sym (cond-false (ltb x.count e.count) _ _ (le-ltb x.count e.count ge))) (q, a))
       (cases_lt x.count e.count)
 
-  all_without : (Q : Entry P → Type 0) (c : ℕ) (es : List (Entry P)) → All Q es → All Q (without c es)
+  all_without : (Q : Entry P → Type 0) (c : ℕ) (es : List (Entry P)) → AllByRecursion Q es → AllByRecursion Q (without c es)
   all_without Q c [] a = tt
   all_without Q c (x ∷ es) a =
       ⊎_elim
-      (λ e. subst (All Q) (sym (cond-true (eqb x.count c) _ _ (eq-eqb x.count c e))) a.1)
-      (λ (ne : x.count ≡ c → ⊥). subst (All Q) (sym (cond-false (eqb x.count c) _ _ (ne_eqb x.count c ne))) (a.0, all_without Q c es a.1))
+      (λ e. subst (AllByRecursion Q) (sym (cond-true (eqb x.count c) _ _ (eq-eqb x.count c e))) a.1)
+      (λ (ne : x.count ≡ c → ⊥). subst (AllByRecursion Q) (sym (cond-false (eqb x.count c) _ _ (ne_eqb x.count c ne))) (a.0, all_without Q c es a.1))
       (cases_eq x.count c)
 
   rising_with : (e : Entry P) (es : List (Entry P)) → RisingCounts es → holds e.count es ≡ false → RisingCounts (with_point e es)

@@ -1,6 +1,6 @@
 -- Where a count stands among entries by rising count. Assumes nothing.
 use Rattle.std.proofs.Common.{◌≡◌, ℕ, zero, suc, ◌+◌, ◌-◌, ◌<◌, ◌≤◌, true, false, ◌||◌, eqb, ltb, List, [], ◌∷◌, ◌++◌, length, get_or, take, drop, Ok, Err, sym, refl, ap, ◌∙◌, ⊎_elim, append_assoc, add-one, arith}
-use Rattle.std.specs.List.{AllByRecursion as All}
+use Rattle.std.specs.List.{AllByRecursion}
 use Rattle.std.proofs.ByRecursion.{All-get_or, All-weaker}
 use Rattle.std.proofs.lemmas.List.{take-take, drop-take, length-take-le}
 use Rattle.std.proofs.lemmas.Bool.{both_ways, cases_Bool, cases_lt, cases_eq, lt-ltb, le-ltb, eq-eqb, ne_eqb, or_right, cond-true, cond-false}
@@ -38,7 +38,7 @@ module _ {P : Type 0} (c : ℕ) where
   holds_head x es h = ap (λ b. b || holds c es) (ne_eqb x.count c h)
 
   -- counts that all lie above are not this one
-  holds_none : (es : List (Entry P)) → All (λ x. c < x.count) es → holds c es ≡ false
+  holds_none : (es : List (Entry P)) → AllByRecursion (λ x. c < x.count) es → holds c es ≡ false
   holds_none [] a = refl
   holds_none (x ∷ es) a = holds_head x es (λ e. omega (arith, a.0)) ∙ holds_none es a.1
 

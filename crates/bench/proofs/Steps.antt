@@ -1,6 +1,6 @@
 -- Each call keeps the promises. Assumes nothing.
 use Rattle.std.proofs.Common.{◌≡◌, ℕ, zero, suc, ◌<◌, ◌≤◌, true, List, [], ◌∷◌, map, length, get_or, ℤ, is_ok, Ok, Err, Result, sym, refl, ap, ◌∙◌, subst, arith}
-use Rattle.std.specs.List.{AllByRecursion as All}
+use Rattle.std.specs.List.{AllByRecursion}
 use Rattle.std.proofs.ByRecursion.{All-weaker}
 use Rattle.std.proofs.lemmas.List.{get_or-map, length-map}
 use Rattle.fault.specs.declared.Fault.{Fault}
@@ -40,7 +40,7 @@ module _ {P : Type 0} (places top room : ℕ) where
 
 -- ---- what a table of points is worth to a conversion
 
-count_over : {P : Type 0} (n : ℕ) (es : List (Entry P)) (j : ℕ) → All (λ y. n < y.count) es → j < length es → n < get_or (map (λ (e : Entry P). e.count) es) j 0
+count_over : {P : Type 0} (n : ℕ) (es : List (Entry P)) (j : ℕ) → AllByRecursion (λ y. n < y.count) es → j < length es → n < get_or (map (λ (e : Entry P). e.count) es) j 0
 count_over n [] j a h = absurd (omega arith)
 count_over n (x ∷ es) zero a h = a.0
 count_over n (x ∷ es) (suc j) a h = count_over n es j a.1 (omega arith)
@@ -86,7 +86,7 @@ module _ {P : Type 0} (places top room : ℕ) where
   rising_after (converted c r ∷ h) w = rising_after h w.1
 
   -- the conversions since the last accepted lay went by the table that is there still
-  by_this_table : (h : History P) → Lawful places top room h → All (λ d. conversion (table_after h) d.0 ≡ Ok d.1) (converted_since h)
+  by_this_table : (h : History P) → Lawful places top room h → AllByRecursion (λ d. conversion (table_after h) d.0 ≡ Ok d.1) (converted_since h)
   by_this_table [] w = tt
   by_this_table (added c p r ∷ h) w = by_this_table h w.1
   by_this_table (dropped c r ∷ h) w = by_this_table h w.1

@@ -1,6 +1,6 @@
 -- Held points: a list of entries by rising count. Assumes nothing.
 use Rattle.std.specs.Prelude.{ℕ, suc, ◌+◌, ◌-◌, ◌<◌, ◌≤◌, min, Bool, false, cond, not, ◌||◌, List, [], ◌∷◌, ◌++◌, length, take, drop, ℤ, Ok, Err, Result, ◌==◌, nat_le, nat_lt}
-use Rattle.std.specs.List.{AllByRecursion as All}
+use Rattle.std.specs.List.{AllByRecursion}
 use Rattle.fault.specs.Asked.{asked}
 use Rattle.fault.specs.declared.Fault.{Fault}
 use Rattle.fault.specs.declared.Question.TheVariants.{AddCount, AddTwice, AddFull, DropNone, LayNone, LayRoom}
@@ -30,11 +30,11 @@ taken_out c (x ∷ es) = cond (x.count == c) (x ∷ []) (taken_out c es)
 -- counts rise from entry to entry
 abbrev pub RisingCounts : {P : Type 0} → List (Entry P) → Type 0
 RisingCounts [] = Unit {0}
-RisingCounts (x ∷ es) = All (λ y. x.count < y.count) es × RisingCounts es
+RisingCounts (x ∷ es) = AllByRecursion (λ y. x.count < y.count) es × RisingCounts es
 
 -- the order of a bench's points: rising counts, all in range
 abbrev pub Ordered : {P : Type 0} → List (Entry P) → Type 0
-Ordered es = RisingCounts es × All (λ x. x.count ≤ 16777215) es
+Ordered es = RisingCounts es × AllByRecursion (λ x. x.count ≤ 16777215) es
 
 -- how many of the first entries lie below a count
 abbrev pub below_count : {P : Type 0} → ℕ → List (Entry P) → ℕ

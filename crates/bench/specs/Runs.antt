@@ -1,6 +1,6 @@
 -- What is promised of a bench and a holder over any run of calls. Assumes nothing.
 use Rattle.std.specs.Prelude.{◌≡◌, ℕ, ◌≤◌, true, List, [], ◌∷◌, map, ℤ, is_ok, Ok, Err, Result}
-use Rattle.std.specs.List.{AllByRecursion as All}
+use Rattle.std.specs.List.{AllByRecursion}
 use Rattle.fault.specs.declared.Fault.{Fault}
 use Rattle.fit.specs.Cheapest.{LeastCheapest}
 use Rattle.fit.specs.Entries.{points_of}
@@ -68,7 +68,7 @@ abbrev pub Right : {P : Type 0} (places top room : ℕ) → Event P → History 
 Right places top room (added c p r) h = r ≡ add_answer places (held_after h) c
 Right places top room (dropped c r) h = r ≡ drop_answer (held_after h) c
 Right places top room (laid cost r rs) h = (r ≡ lay_answer room (held_after h)) × (is_ok r ≡ true → TableOf cost top (held_after h) rs)
-Right places top room (converted c r) h = (r ≡ conversion (table_after h) c) × ((l : ℕ) → r ≡ Ok l → All (InOrder (c, l)) (converted_since h))
+Right places top room (converted c r) h = (r ≡ conversion (table_after h) c) × ((l : ℕ) → r ≡ Ok l → AllByRecursion (InOrder (c, l)) (converted_since h))
 
 -- the same of every call of a run
 abbrev pub Lawful : {P : Type 0} (places top room : ℕ) → History P → Type 0

@@ -1,6 +1,6 @@
 // Laying: the fitted levels of held points, put into a holder row by row.
 ghost use Rattle.std.specs.Prelude.{◌≡◌, ◌≤◌, [], length, Ok};
-ghost use Rattle.std.specs.List.{AllByRecursion as All};
+ghost use Rattle.std.specs.List.{AllByRecursion};
 ghost use Rattle.fit.specs.Cheapest.{LeastCheapest};
 ghost use Rattle.fit.specs.Entries.{points_of};
 ghost use Rattle.fit.specs.MaxMin.{fitted};
@@ -14,7 +14,7 @@ use table::holder::Holder;
 
 // Puts a row for each point into a holder that has none.
 fn put_rows<P, H: Holder>(holder: &mut H, entries: &[Entry<P>], levels: &[u16]) -> Result<(), Fault>
-    requires { (H.listed holder.old ≡ []) × ((length levels.now ≡ length entries.now) × ((length entries.now ≤ H.room holder.old) × (All (λ e. e.count ≤ 16777215) entries.now))) }
+    requires { (H.listed holder.old ≡ []) × ((length levels.now ≡ length entries.now) × ((length entries.now ≤ H.room holder.old) × (AllByRecursion (λ e. e.count ≤ 16777215) entries.now))) }
     ensures answer { result ≡ Ok tt }
     ensures rows { H.listed holder.new ≡ rows_of entries.now levels.now }
     ensures room { H.room holder.new ≡ H.room holder.old }
@@ -34,7 +34,7 @@ fn lay_through<L: Loss, H: Holder>(
     levels: &mut [u16],
     holder: &mut H,
 ) -> Result<(), Fault>
-    requires { (length levels.old ≡ length entries.now) × ((length entries.now ≤ 1024) × ((length entries.now ≤ H.room holder.old) × (All (λ e. e.count ≤ 16777215) entries.now))) }
+    requires { (length levels.old ≡ length entries.now) × ((length entries.now ≤ 1024) × ((length entries.now ≤ H.room holder.old) × (AllByRecursion (λ e. e.count ≤ 16777215) entries.now))) }
     ensures answer { result ≡ Ok tt }
     ensures rows { H.listed holder.new ≡ rows_of entries.now (fitted (L.slope loss.now) top (points_of entries.now)) }
     ensures cheapest { LeastCheapest (L.cost loss.now) top (points_of entries.now) (fitted (L.slope loss.now) top (points_of entries.now)) }
@@ -53,7 +53,7 @@ pub(super) fn lay_rows<L: Loss, H: Holder>(
     top: u16,
     holder: &mut H,
 ) -> Result<(), Fault>
-    requires { (length entries.now ≤ 1024) × ((length entries.now ≤ H.room holder.old) × (All (λ e. e.count ≤ 16777215) entries.now)) }
+    requires { (length entries.now ≤ 1024) × ((length entries.now ≤ H.room holder.old) × (AllByRecursion (λ e. e.count ≤ 16777215) entries.now)) }
     ensures answer { result ≡ Ok tt }
     ensures rows { H.listed holder.new ≡ rows_of entries.now (fitted (L.slope loss.now) top (points_of entries.now)) }
     ensures cheapest { LeastCheapest (L.cost loss.now) top (points_of entries.now) (fitted (L.slope loss.now) top (points_of entries.now)) }

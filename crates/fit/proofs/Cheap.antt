@@ -2,7 +2,7 @@
 -- compared cut off at a height that rises from 0 to top: from m to m + 1 a list gains the steps at m of its points above
 -- m, which in a never-falling list are a back of the points. Assumes nothing.
 use Rattle.std.proofs.Common.{◌≡◌, ℕ, zero, suc, ◌<◌, ◌≤◌, min, cond, ltb, ◌⊎◌, List, [], ◌∷◌, ◌++◌, map, length, ℤ, pos, ◌+ℤ◌, ◌≤ℤ◌, ◌<ℤ◌, sym, refl, ap, ◌∙◌, subst, inl, inr, ⊎_elim, arith, length-append}
-use Rattle.std.specs.List.{AllZip, AllByRecursion as All}
+use Rattle.std.specs.List.{AllZip, AllByRecursion}
 use Rattle.std.proofs.lemmas.Int.{ints}
 use Rattle.std.proofs.lemmas.Bool.{cases_lt, lt-ltb, le-ltb, cond-true, cond-false}
 use Rattle.fit.specs.Best.{total}
@@ -21,11 +21,11 @@ rising_rest : (l : ℕ) (ls : List ℕ) → NeverFalls (l ∷ ls) → NeverFalls
 rising_rest l [] r = tt
 rising_rest l (m ∷ ls) r = r.1
 
-rising_over : (m l : ℕ) (ls : List ℕ) → m < l → NeverFalls (l ∷ ls) → All (λ x. m < x) (l ∷ ls)
+rising_over : (m l : ℕ) (ls : List ℕ) → m < l → NeverFalls (l ∷ ls) → AllByRecursion (λ x. m < x) (l ∷ ls)
 rising_over m l [] h r = (h, tt)
 rising_over m l (x ∷ ls) h r = (h, rising_over m x ls (omega (arith, r.0)) r.1)
 
-each_over : (m : ℕ) (ls ms : List ℕ) → length ms ≡ length ls → All (λ x. m < x) ms → AllZip (λ x y. m < x → m < y) ls ms
+each_over : (m : ℕ) (ls ms : List ℕ) → length ms ≡ length ls → AllByRecursion (λ x. m < x) ms → AllZip (λ x y. m < x → m < y) ls ms
 each_over m [] [] e o = tt
 each_over m [] (y ∷ ms) e o = absurd (omega arith)
 each_over m (x ∷ ls) [] e o = absurd (omega arith)
@@ -38,13 +38,13 @@ module _ {P : Type 0} (f : P → ℤ) (m : ℕ) where
   gain_under : (p : P) (ps : List P) (l : ℕ) (ls : List ℕ) → l ≤ m → gain f m (p ∷ ps) (l ∷ ls) ≡ pos 0 +ℤ gain f m ps ls
   gain_under p ps l ls h = ap (λ x. x +ℤ gain f m ps ls) (cond-false (ltb m l) (f p) (pos 0) (le-ltb m l h))
 
-  gain_all : (ps : List P) (ls : List ℕ) → length ls ≡ length ps → All (λ l. m < l) ls → gain f m ps ls ≡ total f ps
+  gain_all : (ps : List P) (ls : List ℕ) → length ls ≡ length ps → AllByRecursion (λ l. m < l) ls → gain f m ps ls ≡ total f ps
   gain_all [] ls e o = refl
   gain_all (p ∷ ps) [] e o = absurd (omega arith)
   gain_all (p ∷ ps) (l ∷ ls) e o = gain_over p ps l ls o.0 ∙ ap (λ x. f p +ℤ x) (gain_all ps ls (omega arith) o.1)
 
   -- the gain of the list whose cut is at the end of low
-  gain_cut : (low high : List P) (lows highs : List ℕ) → length lows ≡ length low → length highs ≡ length high → All (λ l. l ≤ m) lows → All (λ l. m < l) highs → gain f m (low ++ high) (lows ++ highs) ≡ total f high
+  gain_cut : (low high : List P) (lows highs : List ℕ) → length lows ≡ length low → length highs ≡ length high → AllByRecursion (λ l. l ≤ m) lows → AllByRecursion (λ l. m < l) highs → gain f m (low ++ high) (lows ++ highs) ≡ total f high
   gain_cut [] high [] highs d e u o = gain_all high highs e o
   gain_cut [] high (l ∷ lows) highs d e u o = absurd (omega arith)
   gain_cut (p ∷ low) high [] highs d e u o = absurd (omega arith)
@@ -52,7 +52,7 @@ module _ {P : Type 0} (f : P → ℤ) (m : ℕ) where
       omega (arith, ints, gain_under p (low ++ high) l (lows ++ highs) u.0, gain_cut low high lows highs (omega arith) e u.1 o)
 
   -- to leave out a front that is below 0 costs more
-  high_gain : (a : ℤ) (ps : List P) (ls : List ℕ) → length ls ≡ length ps → NeverFalls ls → Fronts f a ps → All (λ l. m < l) ls ⊎ ((a +ℤ total f ps) <ℤ gain f m ps ls)
+  high_gain : (a : ℤ) (ps : List P) (ls : List ℕ) → length ls ≡ length ps → NeverFalls ls → Fronts f a ps → AllByRecursion (λ l. m < l) ls ⊎ ((a +ℤ total f ps) <ℤ gain f m ps ls)
   high_gain a [] [] e r w = inl tt
   high_gain a [] (l ∷ ls) e r w = absurd (omega arith)
   high_gain a (p ∷ ps) [] e r w = absurd (omega arith)
@@ -68,7 +68,7 @@ module _ {P : Type 0} (f : P → ℤ) (m : ℕ) where
       (cases_lt m l)
 
   -- a never-falling list gains at least as much, and as little only where it is above m wherever the cut list is
-  beats : (low high : List P) (lows highs ms : List ℕ) → length lows ≡ length low → length highs ≡ length high → length ms ≡ length (low ++ high) → NeverFalls ms → All (λ l. l ≤ m) lows → Backs f low (pos 0) → Fronts f (pos 0) high → (total f high ≤ℤ gain f m (low ++ high) ms) × (gain f m (low ++ high) ms ≤ℤ total f high → AllZip (λ x y. m < x → m < y) (lows ++ highs) ms)
+  beats : (low high : List P) (lows highs ms : List ℕ) → length lows ≡ length low → length highs ≡ length high → length ms ≡ length (low ++ high) → NeverFalls ms → AllByRecursion (λ l. l ≤ m) lows → Backs f low (pos 0) → Fronts f (pos 0) high → (total f high ≤ℤ gain f m (low ++ high) ms) × (gain f m (low ++ high) ms ≤ℤ total f high → AllZip (λ x y. m < x → m < y) (lows ++ highs) ms)
   beats [] high [] highs ms d e g r u b w =
       ⊎_elim
       (λ o. (omega (arith, ints, gain_all high ms g o), λ _. each_over m highs ms (omega arith) o))
@@ -101,7 +101,7 @@ module _ {P : Type 0} (f : P → ℤ) (m : ℕ) where
 abbrev capped : ℕ → List ℕ → List ℕ
 capped m ls = map (λ l. min l m) ls
 
-capped_none : (ls : List ℕ) (m : ℕ) → All (λ l. l ≤ m) ls → capped m ls ≡ ls
+capped_none : (ls : List ℕ) (m : ℕ) → AllByRecursion (λ l. l ≤ m) ls → capped m ls ≡ ls
 capped_none [] m h = refl
 capped_none (l ∷ ls) m h = let e : min l m ≡ l = omega (arith, h.0) in (λ i. e i ∷ capped_none ls m h.1 i)
 
@@ -140,7 +140,7 @@ module _ {P : Type 0} (cost step : P → ℕ → ℤ) (top : ℕ) (steps : (p : 
     each_more m ls ms a.1 b.1,
   )
 
-  each_all : (ls ms : List ℕ) → All (λ l. l ≤ top) ls → AllZip (λ x y. min x top ≤ min y top) ls ms → AllZip (λ x y. x ≤ y) ls ms
+  each_all : (ls ms : List ℕ) → AllByRecursion (λ l. l ≤ top) ls → AllZip (λ x y. min x top ≤ min y top) ls ms → AllZip (λ x y. x ≤ y) ls ms
   each_all [] [] w a = tt
   each_all [] (y ∷ ms) w a = a
   each_all (x ∷ ls) [] w a = a

@@ -2,7 +2,7 @@
 -- Assumes nothing.
 use Rattle.std.proofs.Common.{◌≡◌, ℕ, zero, suc, ◌-◌, ◌<◌, ◌≤◌, List, [], ◌∷◌, ◌++◌, length, replicate, ℤ, pos, ◌+ℤ◌, sym, refl, ap, ◌∙◌, subst, ⊎_elim, append_assoc, append-nil, arith, length-append}
 use lib.ListN.{length-replicate}
-use Rattle.std.specs.List.{AllByRecursion as All}
+use Rattle.std.specs.List.{AllByRecursion}
 use Rattle.std.proofs.ByRecursion.{All-append}
 use Rattle.std.proofs.lemmas.Int.{ints}
 use Rattle.std.proofs.lemmas.Bool.{cases_lt}
@@ -24,15 +24,15 @@ pub record Cut {P : Type 0} (f : P → ℤ) (m : ℕ) (ps : List P) (ls : List �
   pub high_even : length highs ≡ length high
   pub backs : Backs f low (pos 0)
   pub fronts : Fronts f (pos 0) high
-  pub under : All (λ l. l ≤ m) lows
-  pub over : All (λ l. m < l) highs
+  pub under : AllByRecursion (λ l. l ≤ m) lows
+  pub over : AllByRecursion (λ l. m < l) highs
 
-all_replicate : (Q : ℕ → Type 0) (n v : ℕ) → Q v → All Q (replicate n v)
+all_replicate : (Q : ℕ → Type 0) (n v : ℕ) → Q v → AllByRecursion Q (replicate n v)
 all_replicate Q zero v h = tt
 all_replicate Q (suc n) v h = (h, all_replicate Q n v h)
 
 -- a block of one level at the end of levels that are no higher
-rising_block : (ls : List ℕ) (n v : ℕ) → NeverFalls ls → All (λ l. l ≤ v) ls → NeverFalls (ls ++ replicate n v)
+rising_block : (ls : List ℕ) (n v : ℕ) → NeverFalls ls → AllByRecursion (λ l. l ≤ v) ls → NeverFalls (ls ++ replicate n v)
 rising_block [] zero v r u = tt
 rising_block [] (suc zero) v r u = tt
 rising_block [] (suc (suc n)) v r u = (omega arith, rising_block [] (suc n) v tt tt)
@@ -50,7 +50,7 @@ module _ {P : Type 0} (step : P → ℕ → ℤ) (top : ℕ) where
   stacked_length (b ∷ bs) ps s =
       omega (arith, length-append (spread bs) (replicate (b.end - b.start) b.level), length-replicate (b.end - b.start) b.level, stacked_length bs s.0 s.4, run_length b ps s.0 s.1 s.2, length-append s.0 s.1, ap length s.2.split)
 
-  pub stacked_under : (m : ℕ) (bs : List Block) (ps : List P) → level_of bs ≤ m → Stacked step top bs ps → All (λ l. l ≤ m) (spread bs)
+  pub stacked_under : (m : ℕ) (bs : List Block) (ps : List P) → level_of bs ≤ m → Stacked step top bs ps → AllByRecursion (λ l. l ≤ m) (spread bs)
   stacked_under m [] ps h s = tt
   stacked_under m (b ∷ bs) ps h s =
       All-append (λ l. l ≤ m) _ _ (stacked_under m bs s.0 (omega (arith, s.3)) s.4) (all_replicate (λ l. l ≤ m) _ b.level h)

@@ -1,6 +1,6 @@
 -- Levels that cut the points at every level below top are the max-min values. Assumes nothing.
 use Rattle.std.proofs.Common.{◌≡◌, ℕ, zero, suc, ◌+◌, ◌-◌, ◌<◌, ◌≤◌, List, ◌++◌, length, get_or, take, drop, ℤ, pos, refl, ap, ◌∙◌, subst, ⊎_elim, arith, length-append}
-use Rattle.std.specs.List.{AllByRecursion as All}
+use Rattle.std.specs.List.{AllByRecursion}
 use Rattle.std.proofs.lemmas.List.FromFn.{fill_by_all}
 use Rattle.std.proofs.ByRecursion.{All-get_or}
 use Rattle.std.proofs.lemmas.List.{length-drop, get_or_append_left, get_or-append_right, take_at, drop_at, drop-append-le}
@@ -52,7 +52,7 @@ module _ {P : Type 0} (low high : List P) where
   part_low j k h e =
       ap (take (suc k - j)) (drop-append-le j low high h) ∙ take_at (drop j low) high (suc k - j) (length-drop j low ∙ omega arith)
 
-module _ {P : Type 0} (step : P → ℕ → ℤ) (top : ℕ) (rises : Rises step top) (ps : List P) (ls : List ℕ) (within : All (λ l. l ≤ top) ls) (even : length ls ≡ length ps) (cut : (m : ℕ) → m < top → Cut (λ p. step p m) m ps ls) (i : ℕ) (at : i < length ps) where
+module _ {P : Type 0} (step : P → ℕ → ℤ) (top : ℕ) (rises : Rises step top) (ps : List P) (ls : List ℕ) (within : AllByRecursion (λ l. l ≤ top) ls) (even : length ls ≡ length ps) (cut : (m : ℕ) → m < top → Cut (λ p. step p m) m ps ls) (i : ℕ) (at : i < length ps) where
   over : (l : ℕ) → l < get_or ls i 0 → l < top → suc l ≤ max_min step top ps i
   unfolding max_min
   over l h t =
@@ -118,7 +118,7 @@ module _ {P : Type 0} (step : P → ℕ → ℤ) (top : ℕ) (rises : Rises step
       omega arith
 
 -- a stack's levels are the fitted ones
-pub reaches_all : {P : Type 0} (step : P → ℕ → ℤ) (top : ℕ) → Rises step top → (ps : List P) (ls : List ℕ) → All (λ l. l ≤ top) ls → length ls ≡ length ps → ((m : ℕ) → m < top → Cut (λ p. step p m) m ps ls) → ls ≡ fitted step top ps
+pub reaches_all : {P : Type 0} (step : P → ℕ → ℤ) (top : ℕ) → Rises step top → (ps : List P) (ls : List ℕ) → AllByRecursion (λ l. l ≤ top) ls → length ls ≡ length ps → ((m : ℕ) → m < top → Cut (λ p. step p m) m ps ls) → ls ≡ fitted step top ps
 unfolding fitted
 reaches_all step top rises ps ls within even cut =
     fill_by_all (max_min step top ps) ls (length ps) 0 even (λ k h. reaches step top rises ps ls within even cut k h)

@@ -1,6 +1,6 @@
 -- What it is for a list of levels to be the cheapest never-falling one, and the least of the cheapest. Assumes nothing.
 use Rattle.std.specs.Prelude.{◌≡◌, ℕ, ◌≤◌, List, [], ◌∷◌, length, ℤ, pos, ◌+ℤ◌, ◌≤ℤ◌}
-use Rattle.std.specs.List.{AllZip, AllByRecursion as All}
+use Rattle.std.specs.List.{AllZip, AllByRecursion}
 
 -- the cost of a list of levels, one for each point
 abbrev pub cost_of : {P : Type 0} → (P → ℕ → ℤ) → List P → List ℕ → ℤ
@@ -18,7 +18,7 @@ NeverFalls (l ∷ m ∷ ls) = (l ≤ m) × NeverFalls (m ∷ ls)
 pub record Table {P : Type 0} (top : ℕ) (ps : List P) (ls : List ℕ) : Type 0 where
   pub one_each : length ls ≡ length ps
   pub rising : NeverFalls ls
-  pub within : All (λ l. l ≤ top) ls
+  pub within : AllByRecursion (λ l. l ≤ top) ls
 
 -- ls can be laid, no other list that could be laid costs less, and one that costs as little is nowhere lower
 pub record LeastCheapest {P : Type 0} (cost : P → ℕ → ℤ) (top : ℕ) (ps : List P) (ls : List ℕ) : Type 0 where

@@ -1,5 +1,5 @@
 use Rattle.std.proofs.Common.{◌≡◌, ℕ, ◌-◌, ◌<◌, ◌≤◌, List, [], length, take, Ok, sym, ap, ◌∙◌, subst, arith}
-use Rattle.std.specs.List.{AllByRecursion as All}
+use Rattle.std.specs.List.{AllByRecursion}
 use Rattle.std.proofs.lemmas.List.{length-take-le}
 use Rattle.std.proofs.lemmas.Bool.{cond-true, lt-ltb, le-leb}
 use Rattle.fit.specs.Cheapest.{LeastCheapest}
@@ -25,7 +25,7 @@ lay_rows-requires g c =
       omega (arith, long, b.few),
       (
         omega (arith, long, c.capacity.ensures),
-        subst (All (λ (e : Entry g.row.P.Denot). e.count ≤ 16777215)) (sym (same mem held)) (ordered (take held mem) b.order).1,
+        subst (AllByRecursion (λ (e : Entry g.row.P.Denot). e.count ≤ 16777215)) (sym (same mem held)) (ordered (take held mem) b.order).1,
       ),
     )
 
