@@ -32,7 +32,8 @@ number_of ConvertBelow = 8
 number_of ConvertAbove = 9
 number_of ConvertFalls = 10
 
--- 1 the fields of a line, 2 its form, 3 the bench, 4 the table
+-- 1 the bytes of a line, its numbers and what a point may hold, 2 what a line, a point, an answer or an input is as a
+-- whole, 3 the bench, 4 tables
 abbrev pub layer_of : Question → ℕ
 layer_of LineLength = 1
 layer_of LineSpacing = 1
