@@ -1,7 +1,7 @@
-use Rattle.std.proofs.Common.{◌≡◌, ◌-◌, ◌&&◌, length, take, drop, Decides, sym, ap, ◌∙◌, arith}
+use Rattle.std.proofs.Common.{◌≡◌, ℕ, ◌&&◌, length, take, drop, Decides, sym, ap, ◌∙◌, arith}
 use Rattle.std.specs.Str.{bytes_eq}
 use Rattle.std.proofs.lemmas.Slice.Eq.{slice_eq-Decides, bytes_eq-Decides}
-use Rattle.std.proofs.lemmas.List.{length-take, length-take-le, length-drop, take_rest}
+use Rattle.std.proofs.lemmas.List.{length-take, length-drop, take_rest}
 use Rattle.table.specs.Binary.{block_head, block_places}
 use Rattle.table.proofs.Same.{decides_as, first_eight, body_both}
 use Rattle.table.proofs.opening.block.body_right.Goals as goal
@@ -9,8 +9,7 @@ use Rattle.table.proofs.opening.block.body_right.Goals.{After-eq}
 use Rattle.std.proofs.lemmas.Bool.Decides.{Decides-eqb}
 
 pub slice_bounds-eq-end : goal.slice_bounds-eq-end
-slice_bounds-eq-end c =
-    sym (length-take-le _ _ (omega (arith, c.requires.block, length-take (length c.args.block.now - 8) (drop 8 c.args.block.now), length-drop 8 c.args.block.now)))
+slice_bounds-eq-end c = omega (arith, length-take {A = ℕ}, length-drop {A = ℕ})
 
 -- the test of the head
 head_test : (c : After-eq) → Decides c.eq.result (take 8 c.args.block.now ≡ block_head c.args.number (length c.args.rows.now))

@@ -1,13 +1,13 @@
-use Rattle.std.proofs.Common.{sym, ◌∙◌, arith}
+use Rattle.std.proofs.Common.{ℕ, ◌∙◌, arith}
 use Rattle.std.proofs.lemmas.Slice.Eq.{slice_eq-Decides}
-use Rattle.std.proofs.lemmas.List.{length-take-le, take_rest}
+use Rattle.std.proofs.lemmas.List.{length-take, take_rest}
 use Rattle.table.specs.Opening.{sums_right}
 use Rattle.table.proofs.Same.{same_as}
 use Rattle.table.proofs.opening.block.sums_right.Goals as goal
 use Rattle.std.proofs.lemmas.Bool.Decides.{Decides-eqb}
 
 pub slice_bounds-sum_bytes-end : goal.slice_bounds-sum_bytes-end
-slice_bounds-sum_bytes-end c = sym (length-take-le 508 c.args.block.now (omega arith))
+slice_bounds-sum_bytes-end c = omega (arith, length-take {A = ℕ})
 
 pub returns : goal.returns
 unfolding sums_right
