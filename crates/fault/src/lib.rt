@@ -1,8 +1,11 @@
 // What a refusal says: which question was answered no, and where in the text it was asked.
 #![tactic(auto)]
 
-ghost use Rattle.std.specs.Prelude.{◌≡◌};
-ghost use Rattle.fault.specs.Numbers.{number_of, layer_of, outside_text};
+ghost use Rattle.std.specs.Prelude.{◌≡◌, Some};
+ghost use Rattle.fault.specs.Numbers.{number_of, layer_of, outside_text, at_place};
+ghost use Rattle.fault.specs.Texts.{fault_text};
+
+use std::fmt;
 
 // The questions that can be answered no, one variant each.
 #[derive(Clone, Copy, PartialEq, Eq, Debug)]
@@ -149,5 +152,28 @@ impl Fault {
             line: 0,
             column: 0,
         }
+    }
+
+    // A refusal at a place in a text.
+    pub fn at(line: u32, column: u32, question: Question) -> Fault
+        ensures { result ≡ at_place line column question }
+    {
+        Fault {
+            question,
+            line,
+            column,
+        }
+    }
+}
+
+impl fmt::Display for Fault {
+    ghost output = { λ f. Some (fault_text f) };
+
+    fn fmt<W: fmt::Write>(&self, f: &mut fmt::Formatter<W>) -> fmt::Result {
+        let layer = self.question.layer();
+        let number = self.question.number();
+        let line = self.line;
+        let column = self.column;
+        write!(f, "{layer} {number} {line} {column}")
     }
 }

@@ -10,7 +10,7 @@ pub mod spans;
 
 pub use limit::PullLimit;
 pub use losses::{Absolute, Bands, Squares};
-pub use readings::Reading;
+pub use readings::{Reading, TOP_LEVEL, TOP_WEIGHT};
 pub use spans::Band;
 
 // A loss gives each point a whole-number cost at every level from 0 to 65,536, and answers the step from a level to
@@ -21,6 +21,8 @@ pub trait Loss {
 
     // How many fields such a point takes on a line of input.
     const FIELDS: usize;
+
+    ghost FIELDS: { ℕ };
 
     ghost cost: { Self → Self.Point → ℕ → ℤ };
 
@@ -43,26 +45,23 @@ mod tests {
     use fault::Fault;
     use std::test::Fail;
 
-    // The number of the question that refused, or 0.
-    fn refused<P: Drop>(made: Result<P, Fault>) -> u8 {
-        match made {
-            Ok(_) => 0,
-            Err(fault) => fault.question.number(),
-        }
+    // The number of the question that refused, if one did.
+    fn refused<P: Drop>(made: Result<P, Fault>) -> Option<u8> {
+        Some(made.err()?.question.number())
     }
 
     #[test]
     fn only_points_in_range_are_made(rt: HostRuntime) {
-        assert_eq!(rt; refused(Reading::new(65_535, 1)), 0);
-        assert_eq!(rt; refused(Reading::new(0, 1_000)), 0);
-        assert_eq!(rt; refused(Reading::new(65_536, 1)), 22);
-        assert_eq!(rt; refused(Reading::new(0, 0)), 22);
-        assert_eq!(rt; refused(Reading::new(0, 1_001)), 22);
-        assert_eq!(rt; refused(Band::new(7, 7, 1)), 0);
-        assert_eq!(rt; refused(Band::new(0, 65_535, 1_000)), 0);
-        assert_eq!(rt; refused(Band::new(8, 7, 1)), 23);
-        assert_eq!(rt; refused(Band::new(7, 65_536, 1)), 22);
-        assert_eq!(rt; refused(Band::new(8, 7, 0)), 22);
+        assert_eq!(rt; refused(Reading::new(65_535, 1)), None);
+        assert_eq!(rt; refused(Reading::new(0, 1_000)), None);
+        assert_eq!(rt; refused(Reading::new(65_536, 1)), Some(22));
+        assert_eq!(rt; refused(Reading::new(0, 0)), Some(22));
+        assert_eq!(rt; refused(Reading::new(0, 1_001)), Some(22));
+        assert_eq!(rt; refused(Band::new(7, 7, 1)), None);
+        assert_eq!(rt; refused(Band::new(0, 65_535, 1_000)), None);
+        assert_eq!(rt; refused(Band::new(8, 7, 1)), Some(23));
+        assert_eq!(rt; refused(Band::new(7, 65_536, 1)), Some(22));
+        assert_eq!(rt; refused(Band::new(8, 7, 0)), Some(22));
     }
 
     #[test]

@@ -30,6 +30,8 @@ impl Loss for Squares {
 
     const FIELDS: usize = 4;
 
+    ghost FIELDS = { 4 };
+
     ghost cost = { λ _. square_cost };
 
     ghost slope = { λ _. square_step };
@@ -52,6 +54,8 @@ impl Loss for Absolute {
     type Point = Reading;
 
     const FIELDS: usize = 4;
+
+    ghost FIELDS = { 4 };
 
     ghost cost = { λ _. absolute_cost };
 
@@ -81,6 +85,8 @@ impl Loss for Bands {
     type Point = Band;
 
     const FIELDS: usize = 5;
+
+    ghost FIELDS = { 5 };
 
     ghost cost = { λ _. band_cost };
 

@@ -5,10 +5,10 @@ ghost use Rattle.std.specs.Prelude.{◌≡◌, IfOk};
 use fault::{Fault, Question};
 
 // The greatest level of any point.
-pub(super) const TOP_LEVEL: u32 = 65_535;
+pub const TOP_LEVEL: u32 = 65_535;
 
 // The greatest weight of any point.
-pub(super) const TOP_WEIGHT: u32 = 1_000;
+pub const TOP_WEIGHT: u32 = 1_000;
 
 // One measured level, and how much it weighs.
 #[derive(Clone, Copy, PartialEq, Eq, Debug)]
