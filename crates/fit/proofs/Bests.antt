@@ -1,10 +1,15 @@
 -- The best level parts the levels below top, and is the only level that does. Assumes nothing.
-use Rattle.std.proofs.Common.{◌≡◌, ℕ, zero, suc, ◌+◌, ◌-◌, ◌<◌, ◌≤◌, true, false, cond, List, [], ◌∷◌, ℤ, pos, negsuc, ◌≤ℤ◌, ◌<ℤ◌, sym, refl, subst, ⊎_elim, arith}
+use Rattle.std.proofs.Common.{◌≡◌, ℕ, zero, suc, ◌+◌, ◌-◌, ◌<◌, ◌≤◌, true, false, cond, List, [], ◌∷◌, ℤ, pos, negsuc, ◌≤ℤ◌, ◌<ℤ◌, sym, refl, ap, subst, ⊎_elim, arith}
 use lib.Signed.{non_neg, ≤ℤ_refl}
 use Rattle.std.proofs.lemmas.Int.{ints}
 use Rattle.std.proofs.lemmas.Bool.{cases_lt}
 use Rattle.fit.specs.Best.{summed_step, first_up, best_level}
-use Rattle.fit.specs.Pooling.{Best}
+
+-- v parts the levels below top: the summed step of ps is below 0 under it, and 0 or more from it on
+pub record Best {P : Type 0} (step : P → ℕ → ℤ) (top : ℕ) (ps : List P) (v : ℕ) : Type 0 where
+  pub within : v ≤ top
+  pub below : (l : ℕ) → l < v → summed_step step ps l <ℤ pos 0
+  pub above : (l : ℕ) → v ≤ l → l < top → pos 0 ≤ℤ summed_step step ps l
 
 -- no step below top is greater than the next
 abbrev pub Rises : {P : Type 0} → (P → ℕ → ℤ) → ℕ → Type 0
@@ -70,35 +75,25 @@ found_only s l n v b =
     (cases_lt w v))
     (cases_lt v w)
 
--- the search from low to high has come to lie between from and to
-pub record Narrowed (s : ℕ → ℤ) (low high from to : ℕ) : Type 0 where
-  pub low_from : low ≤ from
-  pub order : from ≤ to
-  pub to_high : to ≤ high
-  pub below : (l : ℕ) → low ≤ l → l < from → s l <ℤ pos 0
-  pub here : to < high → pos 0 ≤ℤ s to
+pub first_up_none : (s : ℕ → ℤ) (l n : ℕ) → n ≡ 0 → first_up s l n ≡ l
+unfolding first_up
+first_up_none s l n e = ap (first_up s l) e
 
-pub narrowed_start : (s : ℕ → ℤ) (low high : ℕ) → low ≤ high → Narrowed s low high low high
-narrowed_start s low high h = record { low_from = omega arith; order = h; to_high = omega arith; below = λ l a b. absurd (omega arith); here = λ lt. absurd (omega arith) }
-
-pub narrowed_end : (s : ℕ → ℤ) (low high v to : ℕ) → to ≤ v → Narrowed s low high v to → v ≡ first_up s low (high - low)
-narrowed_end s low high v to e n =
-    let same : to ≡ v = omega (arith, n.order) in
-    found_only s low (high - low) v (record {
-      from = n.low_from;
-      to = omega (arith, n.to_high, n.order, n.low_from);
-      below = n.below;
-      here = λ lt. subst (λ x. pos 0 ≤ℤ s x) same (n.here (omega (arith, n.low_from, n.order)));
+-- a search may leave out what lies above a level that is 0 or more
+pub first_up_down : (s : ℕ → ℤ) (from to m : ℕ) → from ≤ m → m < to → pos 0 ≤ℤ s m → first_up s from (m - from) ≡ first_up s from (to - from)
+first_up_down s from to m h k up =
+    let v = first_up s from (m - from) in
+    let f = found s from (m - from) in
+    found_only s from (to - from) v (record {
+      from = f.from;
+      to = omega (arith, f.to);
+      below = f.below;
+      here = λ _.
+          ⊎_elim
+          (λ (lt : v < m). f.here (omega arith))
+          (λ (ge : m ≤ v). let same : m ≡ v = omega (arith, f.to) in subst (λ x. pos 0 ≤ℤ s x) same up)
+          (cases_lt v m);
     })
-
-pub narrowed_down : (s : ℕ → ℤ) (low high from to m : ℕ) → Narrowed s low high from to → from ≤ m → m < to → pos 0 ≤ℤ s m → Narrowed s low high from m
-narrowed_down s low high from to m n h k up = record {
-  low_from = n.low_from;
-  order = h;
-  to_high = omega (arith, n.to_high);
-  below = n.below;
-  here = λ _. up;
-}
 
 module _ {P : Type 0} (step : P → ℕ → ℤ) (top : ℕ) (rises : Rises step top) where
   pub best_is : (ps : List P) → Best step top ps (best_level step top ps)
@@ -111,24 +106,28 @@ module _ {P : Type 0} (step : P → ℕ → ℤ) (top : ℕ) (rises : Rises step
         above = λ l h t. omega (arith, ints, f.here (omega arith), summed_rises step top rises ps (first_up (summed_step step ps) 0 top) l h t);
       }
 
-  pub narrowed_up : (ps : List P) (low high from to m : ℕ) → high ≤ top → Narrowed (summed_step step ps) low high from to → from ≤ m → m < to → summed_step step ps m <ℤ pos 0 → Narrowed (summed_step step ps) low high (m + 1) to
-  narrowed_up ps low high from to m t n h k neg = record {
-    low_from = omega (arith, n.low_from);
-    order = omega arith;
-    to_high = n.to_high;
-    below = λ l a b. omega (arith, ints, neg, summed_rises step top rises ps l m (omega arith) (omega (arith, n.to_high)));
-    here = n.here;
-  }
+  -- and the levels up to one that is below 0
+  pub first_up_up : (ps : List P) (from to m : ℕ) → to ≤ top → from ≤ m → m < to → summed_step step ps m <ℤ pos 0 → first_up (summed_step step ps) (m + 1) (to - (m + 1)) ≡ first_up (summed_step step ps) from (to - from)
+  first_up_up ps from to m t h k neg =
+      let s = summed_step step ps in
+      let f = found s (m + 1) (to - (m + 1)) in
+      found_only s from (to - from) (first_up s (m + 1) (to - (m + 1))) (record {
+        from = omega (arith, f.from);
+        to = omega (arith, f.to);
+        below = λ l a b.
+            ⊎_elim
+            (λ (lt : m < l). f.below l (omega arith) b)
+            (λ (le : l ≤ m). omega (arith, ints, neg, summed_rises step top rises ps l m le (omega arith)))
+            (cases_lt m l);
+        here = λ lt. f.here (omega (arith, f.to));
+      })
 
   pub best_only : (ps : List P) (v : ℕ) → Best step top ps v → v ≡ best_level step top ps
+  unfolding best_level
   best_only ps v b =
-      let w = best_level step top ps in
-      let c = best_is ps in
-      ⊎_elim
-      (λ lt. absurd (omega (arith, ints, c.below v lt, b.above v (omega arith) (omega (arith, c.within)))))
-      (λ le.
-      ⊎_elim
-      (λ lt. absurd (omega (arith, ints, b.below w lt, c.above w (omega arith) (omega (arith, b.within)))))
-      (λ ge. omega arith)
-      (cases_lt w v))
-      (cases_lt v w)
+      found_only (summed_step step ps) 0 top v (record {
+        from = omega arith;
+        to = omega (arith, b.within);
+        below = λ l h. b.below l;
+        here = λ lt. b.above v (omega arith) (omega arith);
+      })

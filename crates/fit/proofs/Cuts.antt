@@ -48,12 +48,12 @@ module _ {P : Type 0} (step : P → ℕ → ℤ) (top : ℕ) where
   pub stacked_length : (bs : List Block) (ps : List P) → Stacked step top bs ps → length (spread bs) ≡ length ps
   stacked_length [] ps s = sym (ap length s)
   stacked_length (b ∷ bs) ps s =
-      omega (arith, length-append (spread bs) (replicate (b.end - b.start) b.level), length-replicate (b.end - b.start) b.level, stacked_length bs s.0 s.4, run_length b ps s.0 s.1 s.2, length-append s.0 s.1, ap length s.2.split)
+      omega (arith, length-append (spread bs) (replicate (b.end - b.start) b.crossing.level), length-replicate (b.end - b.start) b.crossing.level, stacked_length bs s.0 s.4, run_length b ps s.0 s.1 s.2, length-append s.0 s.1, ap length s.2.split)
 
   pub stacked_under : (m : ℕ) (bs : List Block) (ps : List P) → level_of bs ≤ m → Stacked step top bs ps → AllByRecursion (λ l. l ≤ m) (spread bs)
   stacked_under m [] ps h s = tt
   stacked_under m (b ∷ bs) ps h s =
-      All-append (λ l. l ≤ m) _ _ (stacked_under m bs s.0 (omega (arith, s.3)) s.4) (all_replicate (λ l. l ≤ m) _ b.level h)
+      All-append (λ l. l ≤ m) _ _ (stacked_under m bs s.0 (omega (arith, s.3)) s.4) (all_replicate (λ l. l ≤ m) _ b.crossing.level h)
 
   stacked_backs : (m : ℕ) (bs : List Block) (ps : List P) → level_of bs ≤ m → m < top → Stacked step top bs ps → Backs (λ p. step p m) ps (pos 0)
   stacked_backs m [] ps h t s = subst (λ x. Backs (λ p. step p m) x (pos 0)) (sym s) tt
@@ -82,24 +82,24 @@ module _ {P : Type 0} (step : P → ℕ → ℤ) (top : ℕ) where
       let f : P → ℤ = λ p. step p m in
       let n = b.end - b.start in
       ⊎_elim
-      (λ (lt : m < b.level).
+      (λ (lt : m < b.crossing.level).
       let c = stacked_cut m bs s.0 t s.4 in
       let run = fronts_under f (pos 0 +ℤ total f c.high) (pos 0) s.1 (fronts_most f c.high c.fronts) (s.2.pooled.fronts m lt) in
       record {
         low = c.low;
         high = c.high ++ s.1;
         lows = c.lows;
-        highs = c.highs ++ replicate n b.level;
+        highs = c.highs ++ replicate n b.crossing.level;
         points = s.2.split ∙ ap (λ x. x ++ s.1) c.points ∙ append_assoc c.low c.high s.1;
-        levels = ap (λ x. x ++ replicate n b.level) c.levels ∙ append_assoc c.lows c.highs (replicate n b.level);
+        levels = ap (λ x. x ++ replicate n b.crossing.level) c.levels ∙ append_assoc c.lows c.highs (replicate n b.crossing.level);
         low_even = c.low_even;
-        high_even = omega (arith, length-append c.highs (replicate n b.level), length-append c.high s.1, length-replicate n b.level, run_length b ps s.0 s.1 s.2, c.high_even);
+        high_even = omega (arith, length-append c.highs (replicate n b.crossing.level), length-append c.high s.1, length-replicate n b.crossing.level, run_length b ps s.0 s.1 s.2, c.high_even);
         backs = c.backs;
         fronts = fronts_append f (pos 0) c.high s.1 c.fronts run;
         under = c.under;
-        over = All-append (λ l. m < l) _ _ c.over (all_replicate (λ l. m < l) n b.level lt);
+        over = All-append (λ l. m < l) _ _ c.over (all_replicate (λ l. m < l) n b.crossing.level lt);
       })
-      (λ (ge : b.level ≤ m). record {
+      (λ (ge : b.crossing.level ≤ m). record {
         low = ps;
         high = [];
         lows = spread (b ∷ bs);
@@ -113,7 +113,7 @@ module _ {P : Type 0} (step : P → ℕ → ℤ) (top : ℕ) where
         under = stacked_under m (b ∷ bs) ps ge s;
         over = tt;
       })
-      (cases_lt m b.level)
+      (cases_lt m b.crossing.level)
 
   pub stacked_covers : (bs : List Block) (ps : List P) → Stacked step top bs ps → Covers bs (length ps)
   stacked_covers [] ps s = ap length s
@@ -130,7 +130,7 @@ module _ {P : Type 0} (step : P → ℕ → ℤ) (top : ℕ) where
   stacked_rising : (bs : List Block) (ps : List P) → Stacked step top bs ps → NeverFalls (spread bs)
   stacked_rising [] ps s = tt
   stacked_rising (b ∷ bs) ps s =
-      rising_block (spread bs) (b.end - b.start) b.level (stacked_rising bs s.0 s.4) (stacked_under b.level bs s.0 s.3 s.4)
+      rising_block (spread bs) (b.end - b.start) b.crossing.level (stacked_rising bs s.0 s.4) (stacked_under b.crossing.level bs s.0 s.3 s.4)
 
   pub stacked_table : (bs : List Block) (ps : List P) → Stacked step top bs ps → Table top ps (spread bs)
   stacked_table bs ps s = record {

@@ -4,8 +4,8 @@ use Rattle.std.proofs.Common.{◌≡◌, ℕ, ◌-◌, ◌<◌, ◌≤◌, List,
 use Rattle.std.proofs.lemmas.Int.{ints}
 use Rattle.std.proofs.lemmas.Bool.{cases_lt}
 use Rattle.fit.specs.Best.{total, summed_step, first_up}
-use Rattle.fit.specs.Pooling.{Fronts, Backs, Best, Pooled}
-use Rattle.fit.proofs.Bests.{Rises, Found, found, summed_rises}
+use Rattle.fit.specs.Pooling.{Fronts, Backs, Pooled}
+use Rattle.fit.proofs.Bests.{Best, Rises, Found, found, summed_rises}
 use Rattle.fit.proofs.Signs.{total_append, fronts_under, fronts_append, fronts_total, fronts_by_backs, backs_over, backs_append, backs_total, backs_by_fronts}
 
 module _ {P : Type 0} (step : P → ℕ → ℤ) (top : ℕ) where

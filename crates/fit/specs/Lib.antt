@@ -4,3 +4,4 @@ pub mod Cheapest
 pub mod Pooling
 pub mod Entries
 pub mod Calls
+pub mod Crossings

@@ -1,13 +1,13 @@
 // The fit: pools points, taken by rising count, into the cheapest table of levels that never falls.
 #![tactic(auto)]
 
-ghost use Rattle.std.specs.Prelude.{◌≡◌, ◌+◌, ◌-◌, ◌<◌, ◌≤◌, true, ◌∷◌, ◌++◌, length, take, drop, replicate, is_ok, if◌then◌else◌};
-ghost use Rattle.fit.specs.Best.{summed_step, first_up};
+ghost use Rattle.std.specs.Prelude.{◌≡◌, ◌+◌, ◌-◌, ◌<◌, ◌≤◌, true, ◌∷◌, ◌++◌, length, take, drop, replicate, is_ok, if◌then◌else◌, MatchOption};
+ghost use Rattle.fit.specs.Best.{summed_step};
 ghost use Rattle.fit.specs.Calls.{fit_answer};
 ghost use Rattle.fit.specs.Cheapest.{LeastCheapest};
+ghost use Rattle.fit.specs.Crossings.{crossing_of};
 ghost use Rattle.fit.specs.MaxMin.{fitted};
 ghost use Rattle.fit.specs.Entries.{points_of};
-ghost use Rattle.fit.specs.Pooling.{pile, newest_first, falling_two, spread, Covers, Stacked};
 
 use loss::Loss;
 
@@ -21,123 +21,52 @@ pub struct Entry<P> {
     pub point: P,
 }
 
-// Neighbouring points that share a level: those from `start` up to `end`. With it go the summed
-// steps just under the level and at it, as far as they are known; they only tell a later search where to begin.
-#[derive(Clone, Copy)]
-struct Block {
-    start: usize,
-    end: usize,
-    level: u16,
-    under: i64,
-    over: i64,
+// Points one behind the other, and the loss under which they are fitted.
+#[derive(Drop)]
+struct Run<'a, L: Loss> {
+    loss: &'a L,
+    entries: &'a [Entry<L::Point>],
+    ghost few: { length entries.now ≤ 1024 },
 }
 
-// The blocks so far, the newest at `depth - 1`.
-#[derive(Clone, Copy)]
-struct Stack {
-    blocks: [Block; 1024],
-    depth: usize,
-}
-
-impl Stack {
-    fn new() -> Stack
-        ensures { result.depth ≡ 0 }
+impl<'a, L: Loss> Run<'a, L> {
+    // The points from `start` to `end`.
+    fn part(&self, start: usize, end: usize) -> Run<'a, L>
+        requires { (start ≤ end) × (end ≤ length self.now.entries.now) }
+        ensures loss { result.loss.now ≡ self.now.loss.now }
+        ensures entries { result.entries.now ≡ take (end - start) (drop start self.now.entries.now) }
     {
-        let none = Block {
-            start: 0,
-            end: 0,
-            level: 0,
-            under: 0,
-            over: 0,
-        };
-        Stack {
-            blocks: [none; 1024],
-            depth: 0,
+        Run {
+            loss: self.loss,
+            entries: &self.entries[start..end],
         }
     }
 
-    fn push(&mut self, block: Block)
-        requires { self.old.depth < 1024 }
-        ensures { (newest_first self.new ≡ block ∷ newest_first self.old) × (self.new.depth ≡ self.old.depth + 1) }
+    // The steps of the points at one level, added up.
+    fn summed(&self, level: u16) -> i64
+        ensures { result ≡ summed_step (L.slope self.now.loss.now) (points_of self.now.entries.now) level }
     {
-        let at = self.depth;
-        self.blocks[at] = block;
-        self.depth = at + 1;
-    }
-
-    // The two newest blocks become one.
-    fn pool(&mut self, both: Block)
-        requires { (2 ≤ self.old.depth) × (self.old.depth ≤ 1024) }
-        ensures { (newest_first self.new ≡ both ∷ pile self.old.blocks (self.old.depth - 2)) × (self.new.depth + 1 ≡ self.old.depth) }
-    {
-        let at = self.depth - 2;
-        self.blocks[at] = both;
-        self.depth = at + 1;
-    }
-
-    // The two newest blocks, the older first, where the newest is lower than the one before.
-    fn falling(&self) -> Option<(Block, Block)>
-        requires { self.now.depth ≤ 1024 }
-        ensures { result ≡ falling_two (newest_first self.now) }
-    {
-        let depth = self.depth;
-        if depth < 2 {
-            return None;
+        let mut sum: i64 = 0;
+        for e in self.entries {
+            sum += self.loss.step(&e.point, level);
         }
-        let newest = self.blocks[depth - 1];
-        let before = self.blocks[depth - 2];
-        if newest.level < before.level {
-            Some((before, newest))
-        } else {
-            None
+        sum
+    }
+
+    // The block of the points from `start` to `end`, at the crossing that the search finds for them.
+    fn block(&self, start: usize, end: usize, search: Search, guess: u16) -> Block
+        requires { (start ≤ end) × (end ≤ length self.now.entries.now) }
+        ensures start { result.start ≡ start }
+        ensures end { result.end ≡ end }
+        ensures level { result.crossing.level ≡ crossing_of (L.slope self.now.loss.now) (take (end - start) (drop start self.now.entries.now)) search.from search.to }
+    {
+        let crossing = search.crossing(&self.part(start, end), guess);
+        Block {
+            start,
+            end,
+            crossing,
         }
     }
-
-    // Takes in the last point of `seen`: it enters as a block of its own, and blocks are pooled while the newest is
-    // lower than the one before.
-    fn enter<L: Loss>(&mut self, loss: &L, seen: &[Entry<L::Point>], top: u16)
-        requires { (0 < length seen.now) × ((length seen.now ≤ 1024) × (Stacked (L.slope loss.now) top (newest_first self.old) (points_of (take (length seen.now - 1) seen.now)))) }
-        ensures { Stacked (L.slope loss.now) top (newest_first self.new) (points_of seen.now) }
-    {
-        let last = seen.len() - 1;
-        let alone = best_block(loss, seen, last, last + 1, 0, top, top / 2);
-        self.push(alone);
-        while let Some((before, newest)) = self.falling() {
-            let at = guess(&before, &newest);
-            let both = best_block(
-                loss,
-                seen,
-                before.start,
-                newest.end,
-                newest.level,
-                before.level,
-                at,
-            );
-            self.pool(both);
-        }
-    }
-
-    // Writes the level of each point: its block's.
-    fn write(&self, levels: &mut [u16])
-        requires { (self.now.depth ≤ 1024) × (Covers (newest_first self.now) (length levels.old)) }
-        ensures { levels.new ≡ spread (newest_first self.now) }
-    {
-        for block in &self.blocks[0..self.depth] {
-            block.write(levels);
-        }
-    }
-}
-
-// The steps of a run at one level, added up.
-fn summed<L: Loss>(loss: &L, run: &[Entry<L::Point>], level: u16) -> i64
-    requires { length run.now ≤ 1024 }
-    ensures { result ≡ summed_step (L.slope loss.now) (points_of run.now) level }
-{
-    let mut sum: i64 = 0;
-    for e in run {
-        sum += loss.step(&e.point, level);
-    }
-    sum
 }
 
 // Where the summed step of a run stops being below 0, with the summed steps just under that level and at it, as far as
@@ -149,107 +78,203 @@ struct Crossing {
     over: i64,
 }
 
-// The least level from `low` to below `high` at which the summed step of a run is 0 or more, else `high`. The search
-// begins at `guess` and its neighbour, and goes on by halving.
-fn find_crossing<L: Loss>(
-    loss: &L,
-    run: &[Entry<L::Point>],
-    low: u16,
-    high: u16,
-    guess: u16,
-) -> Crossing
-    requires { (length run.now ≤ 1024) × (low ≤ high) }
-    ensures { result.level ≡ first_up (summed_step (L.slope loss.now) (points_of run.now)) low (high - low) }
-{
-    let mut from = low;
-    let mut to = high;
-    let mut under: i64 = 0;
-    let mut over: i64 = 0;
-    let mut turns: u8 = 0;
-    while from < to {
-        let level = probe(from, to, guess, turns);
-        let sum = summed(loss, run, level);
-        if sum < 0 {
-            from = level + 1;
-            under = sum;
-        } else {
-            to = level;
-            over = sum;
+impl Crossing {
+    // How fast the summed step grows about the level.
+    fn growth(&self) -> i64 {
+        self.over.wrapping_sub(self.under)
+    }
+
+    // Where the summed step of this run and the next together would cross 0 if each went on growing as it does about
+    // its own level. Under squares that is the crossing itself.
+    fn meeting(&self, next: &Crossing) -> u16 {
+        let span = i64::from(self.level) - i64::from(next.level);
+        let growth = self.growth().wrapping_add(next.growth());
+        let lack = self
+            .growth()
+            .wrapping_mul(span)
+            .wrapping_sub(self.over)
+            .wrapping_sub(next.over);
+        let rise = lack
+            .wrapping_add(growth.wrapping_sub(1))
+            .checked_div(growth)
+            .unwrap_or(0);
+        u16::try_from(rise.wrapping_add(i64::from(next.level))).unwrap_or(next.level)
+    }
+}
+
+// A search for the least level from `from` to below `to` at which the summed step of a run is 0 or more, else `to`. It
+// keeps the summed steps just under `from` and at `to`, as far as they were asked for.
+#[derive(Clone, Copy)]
+struct Search {
+    from: u16,
+    to: u16,
+    under: i64,
+    over: i64,
+}
+
+impl Search {
+    fn between(low: u16, high: u16) -> Search
+        ensures from { result.from ≡ low }
+        ensures to { result.to ≡ high }
+    {
+        Search {
+            from: low,
+            to: high,
+            under: 0,
+            over: 0,
         }
-        turns = turns.saturating_add(1);
     }
-    Crossing {
-        level: from,
-        under,
-        over,
+
+    // The level to ask at next, of those that are left: the nearest to a guess, else the middle.
+    fn next_level(&self, guess: Option<u16>) -> Option<u16>
+        ensures { MatchOption result (self.now.to ≤ self.now.from) (λ l. (self.now.from ≤ l) × (l < self.now.to)) }
+    {
+        if self.from >= self.to {
+            return None;
+        }
+        match guess {
+            Some(guess) => Some(guess.max(self.from).min(self.to - 1)),
+            None => Some(self.from + (self.to - self.from) / 2),
+        }
+    }
+
+    // Asks for the summed step at one of the levels that are left.
+    fn narrow<L: Loss>(&mut self, run: &Run<L>, level: u16)
+        requires { (self.old.from ≤ level) × (level < self.old.to) }
+        ensures found { crossing_of (L.slope run.now.loss.now) run.now.entries.now self.new.from self.new.to ≡ crossing_of (L.slope run.now.loss.now) run.now.entries.now self.old.from self.old.to }
+        ensures fewer { self.new.to - self.new.from < self.old.to - self.old.from }
+    {
+        let sum = run.summed(level);
+        if sum < 0 {
+            self.from = level + 1;
+            self.under = sum;
+        } else {
+            self.to = level;
+            self.over = sum;
+        }
+    }
+
+    // Asks at the guess and at its neighbour, and then halves what is left.
+    #[tactic(auto, using(crate::proofs::Bests::first_up_none))]
+    fn crossing<L: Loss>(mut self, run: &Run<L>, guess: u16) -> Crossing
+        ensures { result.level ≡ crossing_of (L.slope run.now.loss.now) run.now.entries.now self.from self.to }
+    {
+        let mut guesses = [guess; 2].into_iter();
+        while let Some(level) = self.next_level(guesses.next()) {
+            self.narrow(run, level);
+        }
+        Crossing {
+            level: self.from,
+            under: self.under,
+            over: self.over,
+        }
     }
 }
 
-// The level to try next between `from` and `to`: twice the one nearest to the guess, then the middle.
-fn probe(from: u16, to: u16, guess: u16, turns: u8) -> u16
-    requires { from < to }
-    ensures { (from ≤ result) × (result < to) }
-{
-    if turns < 2 {
-        guess.max(from).min(to - 1)
-    } else {
-        from + (to - from) / 2
-    }
-}
-
-// The block of the points from `start` to `end`, whose best level lies from `low` to `high`.
-fn best_block<L: Loss>(
-    loss: &L,
-    seen: &[Entry<L::Point>],
+// Neighbouring points that share a level: those from `start` up to `end`.
+#[derive(Clone, Copy)]
+struct Block {
     start: usize,
     end: usize,
-    low: u16,
-    high: u16,
-    guess: u16,
-) -> Block
-    requires { (length seen.now ≤ 1024) × ((start ≤ end) × ((end ≤ length seen.now) × (low ≤ high))) }
-    ensures { (result.start ≡ start) × ((result.end ≡ end) × (result.level ≡ first_up (summed_step (L.slope loss.now) (points_of (take (end - start) (drop start seen.now)))) low (high - low))) }
-{
-    let crossing = find_crossing(loss, &seen[start..end], low, high, guess);
-    Block {
-        start,
-        end,
-        level: crossing.level,
-        under: crossing.under,
-        over: crossing.over,
-    }
+    crossing: Crossing,
 }
 
 impl Block {
     // Gives the level to the places of its points.
     fn write(&self, levels: &mut [u16])
         requires { (self.now.start ≤ self.now.end) × (self.now.end ≤ length levels.old) }
-        ensures { levels.new ≡ take self.now.start levels.old ++ (replicate (self.now.end - self.now.start) self.now.level ++ drop self.now.end levels.old) }
+        ensures { levels.new ≡ take self.now.start levels.old ++ (replicate (self.now.end - self.now.start) self.now.crossing.level ++ drop self.now.end levels.old) }
     {
-        levels[self.start..self.end].fill(self.level);
-    }
-
-    // How fast the summed step grows about the level.
-    fn growth(&self) -> i64 {
-        self.over.wrapping_sub(self.under)
+        levels[self.start..self.end].fill(self.crossing.level);
     }
 }
 
-// Where the summed step of two blocks together would cross 0 if each went on growing as it does about its own level.
-// Under squares that is the crossing itself.
-fn guess(before: &Block, newest: &Block) -> u16 {
-    let span = i64::from(before.level) - i64::from(newest.level);
-    let growth = before.growth().wrapping_add(newest.growth());
-    let lack = before
-        .growth()
-        .wrapping_mul(span)
-        .wrapping_sub(before.over)
-        .wrapping_sub(newest.over);
-    let rise = lack
-        .wrapping_add(growth.wrapping_sub(1))
-        .checked_div(growth)
-        .unwrap_or(0);
-    u16::try_from(rise.wrapping_add(i64::from(newest.level))).unwrap_or(newest.level)
+// The blocks so far, the newest at `depth - 1`.
+// A rule of the project: no heap, and the array of records is the stack, of which each pooling changes one in place.
+#[derive(Clone, Copy)]
+struct Stack {
+    blocks: [Block; 1024],
+    depth: usize,
+    ghost within: { depth ≤ 1024 },
+}
+
+impl Stack {
+    ghost use Rattle.fit.specs.Pooling.{newest_first, falling_two, spread, Covers, Stacked};
+
+    fn new() -> Stack
+        ensures { result.depth ≡ 0 }
+    {
+        let none = Block {
+            start: 0,
+            end: 0,
+            crossing: Crossing {
+                level: 0,
+                under: 0,
+                over: 0,
+            },
+        };
+        Stack {
+            blocks: [none; 1024],
+            depth: 0,
+        }
+    }
+
+    fn push(&mut self, block: Block)
+        requires { self.old.depth < 1024 }
+        ensures newest { newest_first self.new ≡ block ∷ newest_first self.old }
+        ensures depth { self.new.depth ≡ self.old.depth + 1 }
+    {
+        let at = self.depth;
+        self.blocks[at] = block;
+        self.depth = at + 1;
+    }
+
+    // The two newest blocks become one.
+    fn pool(&mut self, both: Block)
+        requires { 2 ≤ self.old.depth }
+        ensures newest { newest_first self.new ≡ both ∷ drop 2 (newest_first self.old) }
+        ensures depth { self.new.depth + 1 ≡ self.old.depth }
+    {
+        self.depth -= 2;
+        self.push(both);
+    }
+
+    // The two newest blocks, the older first, where the newest is lower than the one before.
+    fn falling(&self) -> Option<(Block, Block)>
+        ensures { result ≡ falling_two (newest_first self.now) }
+    {
+        match &self.blocks[..self.depth] {
+            [.., before, newest] if newest.crossing.level < before.crossing.level => {
+                Some((*before, *newest))
+            }
+            _ => None,
+        }
+    }
+
+    // Takes in the point at `at` of the run, the first that is not in a block yet: it enters as a block of its own, and
+    // blocks are pooled while the newest is lower than the one before.
+    fn enter<L: Loss>(&mut self, run: &Run<L>, at: usize, top: u16)
+        requires at { at < length run.now.entries.now }
+        requires stacked { Stacked (L.slope run.now.loss.now) top (newest_first self.old) (points_of (take at run.now.entries.now)) }
+        ensures { Stacked (L.slope run.now.loss.now) top (newest_first self.new) (points_of (take (at + 1) run.now.entries.now)) }
+    {
+        self.push(run.block(at, at + 1, Search::between(0, top), top / 2));
+        while let Some((before, newest)) = self.falling() {
+            let search = Search::between(newest.crossing.level, before.crossing.level);
+            let guess = before.crossing.meeting(&newest.crossing);
+            self.pool(run.block(before.start, newest.end, search, guess));
+        }
+    }
+
+    // Writes the level of each point: its block's.
+    fn write(&self, levels: &mut [u16])
+        requires { Covers (newest_first self.now) (length levels.old) }
+        ensures { levels.new ≡ spread (newest_first self.now) }
+    {
+        for block in &self.blocks[..self.depth] {
+            block.write(levels);
+        }
+    }
 }
 
 // Why a fit is refused.
@@ -279,9 +304,11 @@ pub fn fit<L: Loss>(
     if levels.len() != entries.len() {
         return Err(Misfit::Places);
     }
+    let run = Run { loss, entries };
     let mut stack = Stack::new();
+    // By place: a block says by places of the run which points are its own.
     for i in 0..entries.len() {
-        stack.enter(loss, &entries[0..i + 1], top);
+        stack.enter(&run, i, top);
     }
     stack.write(levels);
     Ok(())

@@ -9,11 +9,9 @@ const TOP: u16 = 10;
 // Readings of a level and a weight.
 fn readings(heap: Global, read: &[(u32, u32)]) -> Result<Vec<Entry<Reading>>, Fail> {
     let mut entries = Vec::new(heap);
-    let mut count: u32 = 0;
-    for (level, weight) in read {
-        let point = Reading::new(*level, *weight).ok().ok_or("no reading")?;
+    for ((level, weight), count) in read.iter().zip(0..u32::MAX) {
+        let point = Reading::new(*level, *weight)?;
         entries.push(Entry { count, point })?;
-        count = count.saturating_add(1);
     }
     Ok(entries)
 }
@@ -57,8 +55,8 @@ fn other_losses_by_hand(rt: HostRuntime) -> Result<(), Fail> {
         levels(heap, &limited, &entries)?.as_slice(),
         [2u16, 2, 2].as_slice()
     );
-    let older = Band::new(6, 9, 1).ok().ok_or("no band")?;
-    let newer = Band::new(2, 4, 1).ok().ok_or("no band")?;
+    let older = Band::new(6, 9, 1)?;
+    let newer = Band::new(2, 4, 1)?;
     let entries = [
         Entry {
             count: 0,
@@ -79,7 +77,7 @@ fn other_losses_by_hand(rt: HostRuntime) -> Result<(), Fail> {
 // A refusal leaves the levels as they were.
 #[test]
 fn refusals(rt: HostRuntime) -> Result<(), Fail> {
-    let point = Reading::new(7, 1).ok().ok_or("no reading")?;
+    let point = Reading::new(7, 1)?;
     let entry = Entry { count: 0, point };
     let mut levels = [5; 1025];
     let many = [entry; 1025];

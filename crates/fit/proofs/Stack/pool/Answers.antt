@@ -1,6 +1,7 @@
-use Rattle.std.proofs.Common.{◌-◌, arith}
-use Rattle.fit.proofs.Piles.{pile_put}
+use Rattle.std.proofs.Common.{◌∷◌, drop, sym, ap, ◌∙◌, arith}
+use Rattle.fit.proofs.Piles.{newest_two}
 use Rattle.fit.proofs.Stack.pool.Goals as goal
 
-pub returns : goal.returns
-returns c = (pile_put c.args.self.now.blocks (c.args.self.now.depth - 2) c.args.both (omega arith), omega arith)
+pub returns-clause-newest : goal.returns-clause-newest
+returns-clause-newest c =
+    c.push.ensures.newest ∙ ap (λ t. c.args.both ∷ t) (sym (ap (drop 2) (newest_two c.args.self.now.blocks c.args.self.now.depth (omega arith) (omega arith))))
