@@ -1,18 +1,8 @@
 -- What the questions to a block answer at each way out. Assumes nothing.
-use Rattle.std.proofs.Common.{◌≡◌, ℕ, zero, suc, ◌+◌, ◌-◌, ◌≤◌, Bool, true, false, ◌&&◌, eqb, List, [], ◌∷◌, ◌++◌, length, get_or, take, drop, Ok, Err, Result, sym, refl, ap, ◌∙◌, arith}
-use Rattle.std.proofs.lemmas.List.{drop_at}
-use Rattle.std.proofs.lemmas.Slice.{between_is}
-use Rattle.std.proofs.lemmas.Bool.{cond-true, cond-false}
-use Rattle.fault.specs.declared.Fault.{Fault}
+use Rattle.std.proofs.Common.{◌≡◌, ℕ, zero, suc, ◌+◌, ◌≤◌, Bool, true, false, ◌&&◌, ◌||◌, eqb, leb, ◌⊎◌, inl, inr, ⊎_elim, List, [], ◌∷◌, length, get_or, drop, Ok, Err, sym, refl, ap, ◌∙◌, arith}
+use Rattle.std.proofs.lemmas.Bool.{cond-true, cond-false, and_parts, or_cases, leb-true, eqb-true}
 use Rattle.fault.specs.declared.Question.TheVariants.{OpenSums, OpenLayout, OpenOrder}
 use Rattle.table.specs.Opening.{rows_read, block_rows, row_after, row_follows, least_after, first_stray, sums_right, count_right, body_right, in_block, block_answer}
-
-pub refused_not : {X : Type 0} (e : Fault) (x : Unit {0}) → ◌≡◌ {A = Result (Unit {0}) Fault} (Err e) (Ok x) → X
-refused_not e x h = let z : ◌≡◌ {A = ℕ} 0 1 = cc in absurd (omega arith)
-
--- the rows behind those that were there
-pub fresh_rows : (old new xs : List (ℕ × ℕ)) (before after : ℕ) → length (take before old) ≡ before → take after new ≡ take before old ++ xs → take (after - before) (drop before new) ≡ xs
-fresh_rows old new xs before after l e = between_is new before after ∙ (ap (drop before) e ∙ drop_at (take before old) xs before l)
 
 pub length_rows_read : (n : ℕ) (bs : List ℕ) → length (rows_read n bs) ≡ n
 length_rows_read zero bs = refl
@@ -25,6 +15,20 @@ stray_le least (r ∷ rs) = go (row_follows least r) refl (stray_le (row_after r
     go : (b : Bool) → row_follows least r ≡ b → first_stray (row_after r) rs ≤ length rs → first_stray least (r ∷ rs) ≤ suc (length rs)
     go true e h = omega (arith, cond-true _ (suc (first_stray (row_after r) rs)) 0 e)
     go false e h = omega (arith, cond-false _ (suc (first_stray (row_after r) rs)) 0 e)
+
+pub count_parts : (left before n : ℕ) → count_right left before n ≡ true → (1 ≤ n) × (n ≤ 62) × ((left ≡ 0) ⊎ (n ≡ 62)) × (before + n ≤ 1024)
+count_parts left before n e =
+    let least = and_parts (leb 1 n) (leb n 62 && ((eqb left 0 || eqb n 62) && leb (before + n) 1024)) e in
+    let most = and_parts (leb n 62) ((eqb left 0 || eqb n 62) && leb (before + n) 1024) least.1 in
+    let last = and_parts (eqb left 0 || eqb n 62) (leb (before + n) 1024) most.1 in (
+      leb-true 1 n least.0,
+      leb-true n 62 most.0,
+      ⊎_elim
+          (λ (none : eqb left 0 ≡ true). inl (eqb-true left 0 none))
+          (λ (all : eqb n 62 ≡ true). inr (eqb-true n 62 all))
+          (or_cases (eqb left 0) (eqb n 62) last.0),
+      leb-true (before + n) 1024 last.1,
+    )
 
 module _ (left k : ℕ) (rs : List (ℕ × ℕ)) (b : List ℕ) where
   abbrev stray : ℕ

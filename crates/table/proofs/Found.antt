@@ -1,40 +1,40 @@
 -- The row that a conversion finds, and what each finding answers. Assumes nothing.
-use Rattle.std.proofs.Common.{◌≡◌, ℕ, zero, suc, ◌<◌, ◌≤◌, List, [], ◌∷◌, length, get_or, drop, Some, None, sym, refl, subst, ⊎_elim, arith}
-use Rattle.std.specs.List.{slice_get}
-use Rattle.std.proofs.lemmas.Option.{slice_get-get_or, slice_get_past}
-use Rattle.std.proofs.lemmas.Bool.{cases_lt, le-leb, lt-leb, cond-true, cond-false}
+use Rattle.std.proofs.Common.{◌≡◌, ℕ, zero, suc, ◌<◌, ◌≤◌, leb, ltb, cond, List, [], ◌∷◌, length, Some, None, sym, refl, ap, ◌∙◌, subst, ⊎_elim, arith}
+use Rattle.std.specs.List.{slice_get, position_or_len, position}
+use Rattle.std.specs.Option.{unwrap_or}
+use Rattle.std.proofs.lemmas.Bool.{cases_lt, le-leb, lt-leb, lt-ltb, le-ltb, cond-true, cond-false}
 use Rattle.table.specs.Rows.{count_at}
 use Rattle.table.specs.Convert.{first_at_least}
 
-pub nth_within : {X : Type 0} (xs : List X) (i : ℕ) (x : X) → slice_get xs i ≡ Some x → i < length xs
-nth_within xs i x e = grind (arith, slice_get_past xs i, cases_lt i (length xs))
-
-pub nth_is : {X : Type 0} (xs : List X) (i : ℕ) (x d : X) → slice_get xs i ≡ Some x → get_or xs i d ≡ x
-nth_is xs i x d e = let h = nth_within xs i x e in let n = slice_get-get_or xs i d h in grind arith
-
 pub nth_none : {X : Type 0} (xs : List X) (i : ℕ) → slice_get xs i ≡ None → length xs ≤ i
 nth_none [] i e = omega arith
-nth_none (x ∷ xs) zero e = let z : ◌≡◌ {A = ℕ} 0 1 = cc in absurd (omega arith)
+nth_none (x ∷ xs) zero e = absurd (cc)
 nth_none (x ∷ xs) (suc i) e = omega (arith, nth_none xs i e)
 
--- the search has come to row i and stops there
-pub found_here : (rs : List (ℕ × ℕ)) (i c : ℕ) (r : ℕ × ℕ) → slice_get rs i ≡ Some r → c ≤ r.0 → first_at_least (drop i rs) c ≡ 0
-found_here [] i c r e h = let z : ◌≡◌ {A = ℕ} 0 1 = cc in absurd (omega arith)
-found_here (x ∷ xs) zero c r e h = let s : x ≡ r = cc in cond-true _ _ _ (le-leb c x.0 (rw s h))
-found_here (x ∷ xs) (suc i) c r e h = found_here xs i c r e h
+first_le : (rs : List (ℕ × ℕ)) (c : ℕ) → first_at_least rs c ≤ length rs
+first_le [] c = omega arith
+first_le (r ∷ rs) c =
+    ⊎_elim
+    (λ (lt : r.0 < c). omega (arith, cond-false _ 0 (suc (first_at_least rs c)) (lt-leb c r.0 lt), first_le rs c))
+    (λ (le : c ≤ r.0). omega (arith, cond-true _ 0 (suc (first_at_least rs c)) (le-leb c r.0 le)))
+    (cases_lt r.0 c)
 
--- it goes on past row i
-pub found_later : (rs : List (ℕ × ℕ)) (i c : ℕ) (r : ℕ × ℕ) → slice_get rs i ≡ Some r → r.0 < c → first_at_least (drop i rs) c ≡ suc (first_at_least (drop (suc i) rs) c)
-found_later [] i c r e h = let z : ◌≡◌ {A = ℕ} 0 1 = cc in absurd (omega arith)
-found_later (x ∷ xs) zero c r e h = let s : x ≡ r = cc in cond-false _ _ _ (lt-leb c x.0 (rw s h))
-found_later (x ∷ xs) (suc i) c r e h = found_later xs i c r e h
+-- std's search, by a test, comes to the same row
+first_is : (rs : List (ℕ × ℕ)) (c : ℕ) → position_or_len (λ r. leb c r.0) rs ≡ first_at_least rs c
+first_is [] c = refl
+first_is (r ∷ rs) c =
+    ⊎_elim
+    (λ (lt : r.0 < c). let no = lt-leb c r.0 lt in rw (no, first_is rs c) (omega arith))
+    (λ (le : c ≤ r.0). let yes = le-leb c r.0 le in rw yes refl)
+    (cases_lt r.0 c)
 
--- there is no row i
-pub found_end : (rs : List (ℕ × ℕ)) (i c : ℕ) → length rs ≤ i → first_at_least (drop i rs) c ≡ 0
-found_end [] zero c h = refl
-found_end [] (suc i) c h = refl
-found_end (x ∷ xs) zero c h = absurd (omega arith)
-found_end (x ∷ xs) (suc i) c h = found_end xs i c (omega arith)
+pub first_from_position : (rs : List (ℕ × ℕ)) (c : ℕ) → unwrap_or (position (λ r. leb c r.0) rs) (length rs) ≡ first_at_least rs c
+first_from_position rs c =
+    ap (λ n. unwrap_or (cond (ltb n (length rs)) (Some n) None) (length rs)) (first_is rs c)
+    ∙ ⊎_elim
+    (λ (lt : first_at_least rs c < length rs). ap (λ o. unwrap_or o (length rs)) (cond-true _ _ _ (lt-ltb (first_at_least rs c) (length rs) lt)))
+    (λ (le : length rs ≤ first_at_least rs c). ap (λ o. unwrap_or o (length rs)) (cond-false _ _ _ (le-ltb (first_at_least rs c) (length rs) le)) ∙ omega (arith, first_le rs c))
+    (cases_lt (first_at_least rs c) (length rs))
 
 -- the row found reaches the count, and no row before it does
 pub first_reaches : (rs : List (ℕ × ℕ)) (c : ℕ) → first_at_least rs c < length rs → c ≤ count_at rs (first_at_least rs c)

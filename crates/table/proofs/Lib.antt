@@ -6,7 +6,6 @@ pub mod Written
 pub mod Tables
 pub mod Reading
 pub mod Laid
-pub mod Items
 pub mod Sums
 pub mod Blocks
 pub mod Stacked

@@ -1,49 +1,37 @@
 -- Bytes that are accepted are what writing their rows gives. Assumes nothing.
-use Rattle.std.proofs.Common.{◌≡◌, ℕ, zero, suc, ◌+◌, ◌*◌, ◌/◌, ◌%◌, ◌<◌, ◌≤◌, true, ◌&&◌, ◌||◌, eqb, leb, ◌⊎◌, List, [], ◌++◌, length, get_or, take, drop, Ok, Err, Result, sym, refl, ap, ◌∙◌, subst, inl, inr, ⊎_elim, arith}
+use Rattle.std.proofs.Common.{◌≡◌, ℕ, zero, suc, ◌+◌, ◌*◌, ◌/◌, ◌%◌, ◌<◌, ◌≤◌, ◌⊎◌, List, [], ◌++◌, length, get_or, take, drop, Ok, Err, Result, sym, refl, ap, ◌∙◌, subst, ⊎_elim, arith}
 use Rattle.std.specs.List.{range_with_len, flat_map}
 use Rattle.std.specs.Result.{result_and}
 use Rattle.std.proofs.lemmas.Slice.Eq.{bytes_eq-Decides}
 use Rattle.std.proofs.lemmas.List.{append_assoc, append-nil, length-append, length-drop, take-append-drop, take_all, take_at, drop_at, nil_from_length}
-use Rattle.std.proofs.lemmas.Bool.{and_parts, or_cases, leb-true, eqb-true}
+use Rattle.std.proofs.lemmas.Bool.{and_parts, eqb-true}
 use Rattle.fault.specs.declared.Fault.{Fault}
 use Rattle.table.specs.Binary.{block_body, sum_bytes, block_bytes, rows_of_block, block_count, binary_bytes}
-use Rattle.table.specs.Opening.{block_rows, sums_right, count_right, body_right, block_answer, opened_from, opened, OnlyThat}
-use Rattle.table.proofs.Asks.{length_rows_read}
+use Rattle.table.specs.Opening.{block_rows, sums_right, body_right, block_answer, opened_from, opened, OnlyThat}
+use Rattle.table.proofs.Asks.{length_rows_read, count_parts}
 use Rattle.table.proofs.Rises.{yes_all}
 use Rattle.table.proofs.Stacked.{block_of}
 
 -- a call that goes on after another has both accepted
 accepted_both : {X : Type 0} (r : Result (Unit {0}) Fault) (s : Result X Fault) (x : X) → result_and r s ≡ Ok x → (r ≡ Ok tt) × (s ≡ Ok x)
 accepted_both (Ok u) s x e = (refl, e)
-accepted_both (Err f) s x e = let z : ◌≡◌ {A = ℕ} 0 1 = cc in absurd (omega arith)
+accepted_both (Err f) s x e = absurd (cc)
 
 -- what an accepted block shows
-pub record Taken (left k : ℕ) (b : List ℕ) : Type 0 where
+pub record Taken (left k : ℕ) (rs : List (ℕ × ℕ)) (b : List ℕ) : Type 0 where
   pub bytes : b ≡ block_bytes k (block_rows b)
   pub some : 1 ≤ length (block_rows b)
   pub few : length (block_rows b) ≤ 62
   pub full : (left ≡ 0) ⊎ (length (block_rows b) ≡ 62)
+  pub room : length rs + length (block_rows b) ≤ 1024
 
-count_parts : (left before n : ℕ) → count_right left before n ≡ true → (1 ≤ n) × (n ≤ 62) × ((left ≡ 0) ⊎ (n ≡ 62))
-count_parts left before n e =
-    let least = and_parts (leb 1 n) (leb n 62 && ((eqb left 0 || eqb n 62) && leb (before + n) 1024)) e in
-    let most = and_parts (leb n 62) ((eqb left 0 || eqb n 62) && leb (before + n) 1024) least.1 in
-    let last = and_parts (eqb left 0 || eqb n 62) (leb (before + n) 1024) most.1 in (
-      leb-true 1 n least.0,
-      leb-true n 62 most.0,
-      ⊎_elim
-          (λ (none : eqb left 0 ≡ true). inl (eqb-true left 0 none))
-          (λ (all : eqb n 62 ≡ true). inr (eqb-true n 62 all))
-          (or_cases (eqb left 0) (eqb n 62) last.0),
-    )
-
-pub taken : (left k : ℕ) (rs : List (ℕ × ℕ)) (b : List ℕ) → block_answer left k rs b ≡ Ok tt → Taken left k b
+pub taken : (left k : ℕ) (rs : List (ℕ × ℕ)) (b : List ℕ) → block_answer left k rs b ≡ Ok tt → Taken left k rs b
 unfolding block_answer sums_right body_right block_bytes
 taken left k rs b e =
     let sums = yes_all _ _ _ tt e in
     let layout = and_parts _ _ (yes_all _ _ _ tt sums.1).0 in
     let n : get_or b 2 0 ≡ length (block_rows b) = sym (length_rows_read (get_or b 2 0) (drop 8 b)) in
-    let parts = subst (λ m. (1 ≤ m) × (m ≤ 62) × ((left ≡ 0) ⊎ (m ≡ 62))) n (count_parts left (length rs) (get_or b 2 0) layout.0) in
+    let parts = subst (λ m. (1 ≤ m) × (m ≤ 62) × ((left ≡ 0) ⊎ (m ≡ 62)) × (length rs + m ≤ 1024)) n (count_parts left (length rs) (get_or b 2 0) layout.0) in
     let body : take 508 b ≡ block_body k (block_rows b) = (bytes_eq-Decides (take 508 b) (block_body k (block_rows b))).0 layout.1 in
     let ends : drop 508 b ≡ sum_bytes (take 508 b) = (bytes_eq-Decides (drop 508 b) (sum_bytes (take 508 b))).0 sums.0 in
     record {
@@ -51,6 +39,7 @@ taken left k rs b e =
       some = parts.0;
       few = parts.1;
       full = parts.2;
+      room = parts.3;
     }
 
 -- what is known of n blocks from block k on, behind the rows rs, that end up as all rows
@@ -60,6 +49,7 @@ record Known (n k : ℕ) (rs all : List (ℕ × ℕ)) (bs : List ℕ) : Type 0 w
   bytes : bs ≡ flat_map (block_of all) (range_with_len k n)
   least : 62 * n ≤ length rest + 61
   most : length rest ≤ 62 * n
+  few : length rs ≤ 1024 → length all ≤ 1024
 
 -- the rows of a block stand in all rows where they should
 own_rows : (rs new rest all : List (ℕ × ℕ)) (n k : ℕ) → all ≡ (rs ++ new) ++ rest → length rs ≡ 62 * k → length new ≤ 62 → length rest ≤ 62 * n → (n ≡ 0) ⊎ (length new ≡ 62) → rows_of_block all k ≡ new
@@ -76,7 +66,7 @@ own_rows rs new rest all n k e before few behind full =
 all_known : (n k : ℕ) (rs all : List (ℕ × ℕ)) (bs : List ℕ) → length bs ≡ 512 * n → (0 < n → length rs ≡ 62 * k) → opened_from n k rs bs ≡ Ok all → Known n k rs all bs
 all_known zero k rs all bs long before e =
     let same : rs ≡ all = cc in
-    record { rest = []; rows = sym same ∙ sym (append-nil rs); bytes = nil_from_length bs long; least = omega arith; most = omega arith }
+    record { rest = []; rows = sym same ∙ sym (append-nil rs); bytes = nil_from_length bs long; least = omega arith; most = omega arith; few = λ h. omega (arith, ap length same) }
 all_known (suc n) k rs all bs long before e =
     let b = take 512 bs in
     let new = block_rows b in
@@ -102,17 +92,22 @@ all_known (suc n) k rs all bs long before e =
           ∙ (λ i. (t.bytes ∙ ap (block_bytes k) (sym own)) i ++ ih.bytes i);
       least = sized.0;
       most = sized.1;
+      few = λ h. ih.few (omega (arith, length-append rs new, t.room));
     }
 
-whole_length : (bs : List ℕ) → length bs % 512 ≡ 0 → length bs ≡ 512 * (length bs / 512)
-whole_length bs e = omega arith
-
-pub only_that : OnlyThat
-unfolding opened binary_bytes
-only_that bs rs e =
+known : (bs : List ℕ) (rs : List (ℕ × ℕ)) → opened bs ≡ Ok rs → Known (length bs / 512) 0 [] rs bs
+unfolding opened
+known bs rs e =
     let q = yes_all _ _ _ rs e in
     let whole = eqb-true (length bs % 512) 0 (and_parts _ _ q.0).0 in
-    let n = length bs / 512 in
-    let kept = all_known n 0 [] rs bs (whole_length bs whole) (λ h. refl) q.1 in
-    let blocks : n ≡ block_count (length rs) = omega (arith, ap length kept.rows, kept.least, kept.most) in
+    all_known (length bs / 512) 0 [] rs bs (omega (arith, whole)) (λ h. refl) q.1
+
+pub only_that : OnlyThat
+unfolding binary_bytes
+only_that bs rs e =
+    let kept = known bs rs e in
+    let blocks : length bs / 512 ≡ block_count (length rs) = omega (arith, ap length kept.rows, kept.least, kept.most) in
     kept.bytes ∙ ap (λ m. flat_map (block_of rs) (range_with_len 0 m)) blocks
+
+pub opened_few : (bs : List ℕ) (rs : List (ℕ × ℕ)) → opened bs ≡ Ok rs → length rs ≤ 1024
+opened_few bs rs e = (known bs rs e).few (omega arith)

@@ -1,7 +1,7 @@
 -- Opening, one block further. Assumes nothing.
-use Rattle.std.proofs.Common.{◌≡◌, ℕ, suc, ◌+◌, ◌-◌, ◌*◌, ◌/◌, ◌%◌, ◌<◌, ◌≤◌, ◌&&◌, List, [], ◌++◌, length, take, drop, Ok, Err, Result, sym, ap, ◌∙◌, arith}
+use Rattle.std.proofs.Common.{◌≡◌, ℕ, suc, ◌+◌, ◌/◌, ◌%◌, ◌<◌, ◌≤◌, ◌&&◌, List, [], ◌++◌, length, take, drop, Err, Result, sym, ap, ◌∙◌, arith}
 use Rattle.std.specs.Result.{result_and}
-use Rattle.std.proofs.lemmas.List.{drop-drop}
+use Rattle.std.proofs.lemmas.List.{take_at, drop_at}
 use Rattle.std.proofs.lemmas.Bool.{cond-true, cond-false, eq-eqb, ne_eqb, le-leb, lt-leb, and_left}
 use Rattle.fault.specs.declared.Question.TheVariants.{OpenLength}
 use Rattle.fault.specs.declared.Fault.{Fault}
@@ -20,23 +20,12 @@ pub opened_long : (bs : List ℕ) → length bs % 512 ≡ 0 → 8704 < length bs
 unfolding opened
 opened_long bs whole long = cond-false _ _ _ (λ i. eq-eqb (length bs % 512) 0 whole i && lt-leb (length bs) 8704 long i)
 
--- block k of n, b, with the rows rs before it
-module _ (bs b : List ℕ) (n k : ℕ) (rs : List (ℕ × ℕ)) (more : k < n) (here : b ≡ take 512 (drop (512 * k) bs)) where
-  step : opened_from (n - k) k rs (drop (512 * k) bs) ≡ result_and (block_answer (n - k - 1) k rs b) (opened_from (n - (k + 1)) (k + 1) (rs ++ block_rows b) (drop (512 * (k + 1)) bs))
-  step =
-      ap (λ m. opened_from m k rs (drop (512 * k) bs)) {y = suc (n - k - 1)} (omega arith)
-      ∙ (λ i.
-      result_and (block_answer (n - k - 1) k rs (sym here i))
-      (opened_from (left i) (k + 1) (rs ++ block_rows (sym here i)) ((drop-drop 512 (512 * k) bs ∙ ap (λ m. drop m bs) far) i)))
-    where
-      left : n - k - 1 ≡ n - (k + 1)
-      left = omega arith
-
-      far : 512 * k + 512 ≡ 512 * (k + 1)
-      far = omega arith
-
-  pub step_taken : (r : Result (Unit {0}) Fault) → r ≡ block_answer (n - k - 1) k rs b → r ≡ Ok tt → opened_from (n - k) k rs (drop (512 * k) bs) ≡ opened_from (n - (k + 1)) (k + 1) (rs ++ block_rows b) (drop (512 * (k + 1)) bs)
-  step_taken r e ok = step ∙ ap (λ a. result_and a (opened_from (n - (k + 1)) (k + 1) (rs ++ block_rows b) (drop (512 * (k + 1)) bs))) (sym e ∙ ok)
-
-  pub step_refused : (r : Result (Unit {0}) Fault) (fault : Fault) → r ≡ block_answer (n - k - 1) k rs b → r ≡ Err fault → opened_from (n - k) k rs (drop (512 * k) bs) ≡ Err fault
-  step_refused r fault e err = step ∙ ap (λ a. result_and a (opened_from (n - (k + 1)) (k + 1) (rs ++ block_rows b) (drop (512 * (k + 1)) bs))) (sym e ∙ err)
+-- block k, b, with the rows rs before it and n blocks behind it; r is what it answers
+pub step : (n m k : ℕ) (rs : List (ℕ × ℕ)) (bs b rest : List ℕ) (r : Result (Unit {0}) Fault) → m ≡ n + 1 → bs ≡ b ++ rest → length b ≡ 512 → r ≡ block_answer n k rs b → opened_from m k rs bs ≡ result_and r (opened_from n (k + 1) (rs ++ block_rows b) rest)
+step n m k rs bs b rest r next parted whole answer =
+    let count : m ≡ suc n = omega arith in
+    let first : take 512 bs ≡ b = ap (take 512) parted ∙ take_at b rest 512 whole in
+    let second : drop 512 bs ≡ rest = ap (drop 512) parted ∙ drop_at b rest 512 whole in
+    ap (λ i. opened_from i k rs bs) count
+    ∙ ((λ i. result_and (block_answer n k rs (first i)) (opened_from n (k + 1) (rs ++ block_rows (first i)) (second i)))
+    ∙ ap (λ a. result_and a (opened_from n (k + 1) (rs ++ block_rows b) rest)) (sym answer))

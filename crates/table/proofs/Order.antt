@@ -1,6 +1,6 @@
 -- Rows read one behind another, and where their order breaks. Assumes nothing.
-use Rattle.std.proofs.Common.{◌≡◌, ℕ, zero, suc, ◌+◌, ◌-◌, ◌*◌, ◌<◌, ◌≤◌, true, false, List, [], ◌∷◌, ◌++◌, length, get_or, take, drop, sym, refl, ap, ◌∙◌, arith}
-use Rattle.std.proofs.lemmas.List.{take_more, take_all, drop-drop, drop_more}
+use Rattle.std.proofs.Common.{◌≡◌, ℕ, suc, ◌+◌, ◌-◌, ◌*◌, ◌<◌, ◌≤◌, true, false, List, [], ◌∷◌, ◌++◌, length, get_or, take, drop, sym, refl, ap, ◌∙◌, arith}
+use Rattle.std.proofs.lemmas.List.{take_more, take_all, drop_at, drop_more, get_or_append_left}
 use Rattle.std.proofs.lemmas.Bool.{cond-true, cond-false}
 use Rattle.table.specs.Opening.{row_read, rows_read, row_after, least_after, row_follows, first_stray}
 
@@ -30,11 +30,11 @@ stray_here least rs i h no_more = ap (first_stray least) (drop_more rs i (0, 0) 
 pub stray_later : (least : ℕ × ℕ) (rs : List (ℕ × ℕ)) (i : ℕ) → i < length rs → row_follows least (get_or rs i (0, 0)) ≡ true → first_stray least (drop i rs) ≡ suc (first_stray (row_after (get_or rs i (0, 0))) (drop (i + 1) rs))
 stray_later least rs i h goes_on = ap (first_stray least) (drop_more rs i (0, 0) h) ∙ cond-true _ _ _ goes_on
 
-pub rows_read_more : (n : ℕ) (bs : List ℕ) → rows_read (n + 1) bs ≡ rows_read n bs ++ (row_read (drop (8 * n) bs) ∷ [])
-rows_read_more zero bs = refl
-rows_read_more (suc n) bs =
-    ap (λ k. rows_read k bs) {y = suc (n + 1)} (omega arith)
-    ∙ ap (λ (rs : List (ℕ × ℕ)). row_read bs ∷ rs)
-    (rows_read_more n (drop 8 bs)
-    ∙ ap (λ (xs : List ℕ). rows_read n (drop 8 bs) ++ (row_read xs ∷ []))
-    (drop-drop (8 * n) 8 bs ∙ ap (λ k. drop k bs) {y = 8 * suc n} (omega arith)))
+-- the first of several places
+pub rows_front : (n m : ℕ) (place rest : List ℕ) → n + 1 ≡ m → length place ≡ 8 → rows_read m (place ++ rest) ≡ row_read place ∷ rows_read n rest
+rows_front n m place rest next whole =
+    let own : (k : ℕ) → k < 8 → get_or (place ++ rest) k 0 ≡ get_or place k 0 = λ k h. get_or_append_left place rest 0 k (omega arith) in
+    ap (λ k. rows_read k (place ++ rest)) {y = suc n} (omega arith)
+    ∙ (λ i.
+    (own 0 (omega arith) i + own 1 (omega arith) i * 256 + own 2 (omega arith) i * 65536 + own 3 (omega arith) i * 16777216, own 4 (omega arith) i + own 5 (omega arith) i * 256)
+    ∷ rows_read n (drop_at place rest 8 whole i))

@@ -13,7 +13,7 @@ use Rattle.table.proofs.Lines.{part_le, quotient_mono}
 -- an accepted call had each question answered yes
 pub yes_all : {X : Type 0} (b : Bool) (r : Result X Fault) (e : Fault) (x : X) → cond b r (Err e) ≡ Ok x → (b ≡ true) × (r ≡ Ok x)
 yes_all true r e x h = (refl, h)
-yes_all false r e x h = let z : ◌≡◌ {A = ℕ} 0 1 = cc in absurd (omega arith)
+yes_all false r e x h = absurd (cc)
 
 -- a call refused by one question had the others before it answered yes
 yes_before : {X : Type 0} (b : Bool) (r : Result X Fault) (e d : Fault) → (e ≡ d → ⊥) → cond b r (Err e) ≡ Err d → (b ≡ true) × (r ≡ Err d)
@@ -24,19 +24,19 @@ question_same : (p q : Question) → outside_text p ≡ outside_text q → p ≡
 question_same p q e = ap (λ (f : Fault). f.question) e
 
 not_empty : outside_text ConvertEmpty ≡ outside_text ConvertFalls → ⊥
-not_empty h = let e = question_same ConvertEmpty ConvertFalls h in let z : ◌≡◌ {A = ℕ} 0 1 = cc in omega arith
+not_empty h = let e = question_same ConvertEmpty ConvertFalls h in cc
 
 not_below : outside_text ConvertBelow ≡ outside_text ConvertFalls → ⊥
-not_below h = let e = question_same ConvertBelow ConvertFalls h in let z : ◌≡◌ {A = ℕ} 0 1 = cc in omega arith
+not_below h = let e = question_same ConvertBelow ConvertFalls h in cc
 
 not_above : outside_text ConvertAbove ≡ outside_text ConvertFalls → ⊥
-not_above h = let e = question_same ConvertAbove ConvertFalls h in let z : ◌≡◌ {A = ℕ} 0 1 = cc in omega arith
+not_above h = let e = question_same ConvertAbove ConvertFalls h in cc
 
 ok_same : {X : Type 0} (x y : X) → ◌≡◌ {A = Result X Fault} (Ok x) (Ok y) → x ≡ y
 ok_same x y e = cc
 
 ok_or_err : {X : Type 0} (x : X) (e : Fault) → ◌≡◌ {A = Result X Fault} (Ok x) (Err e) → ⊥
-ok_or_err x e h = let z : ◌≡◌ {A = ℕ} 0 1 = cc in omega arith
+ok_or_err x e h = cc
 
 module _ (rs : List (ℕ × ℕ)) (rising : Rising rs) where
   levels : (i j : ℕ) → i ≤ j → j < length rs → level_at rs i ≤ level_at rs j

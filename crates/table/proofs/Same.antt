@@ -1,11 +1,11 @@
 -- A comparison of bytes as a test, and the parts of a block's body. Assumes nothing.
-use Rattle.std.proofs.Common.{◌≡◌, ℕ, ◌+◌, ◌*◌, ◌≤◌, Bool, true, false, ◌&&◌, List, [], ◌∷◌, ◌++◌, length, get_or, take, drop, Decides, sym, refl, ap, ◌∙◌, subst, add-zero, arith, rules}
+use Rattle.std.proofs.Common.{◌≡◌, ℕ, ◌≤◌, Bool, true, false, ◌&&◌, List, [], ◌∷◌, ◌++◌, length, get_or, take, drop, Decides, sym, refl, ap, ◌∙◌, subst, arith, rules}
 use Rattle.std.specs.Str.{bytes_eq}
 use Rattle.std.proofs.lemmas.List.FromFn.{fill_by_all}
 use Rattle.std.proofs.lemmas.Slice.Eq.{bytes_eq-Decides}
-use Rattle.std.proofs.lemmas.List.{length-take-le, get_or-take, get_or-drop, take-append-drop, take-take, drop-take, take_at, drop_at}
+use Rattle.std.proofs.lemmas.List.{length-take-le, get_or-take, take-append-drop, take-take, drop-take, take_at, drop_at}
 use Rattle.table.specs.Binary.{block_head, block_places, block_body}
-use Rattle.table.specs.Opening.{row_read, body_right}
+use Rattle.table.specs.Opening.{body_right}
 
 pub same_as : (xs ys us vs : List ℕ) (r : Bool) → Decides r (xs ≡ ys) → xs ≡ us → ys ≡ vs → r ≡ bytes_eq us vs
 same_as xs ys us vs r d p q =
@@ -29,12 +29,12 @@ both true false xs ys us vs lx lu dh dp =
     ((λ e. absurd (apart e)), λ e. dp.1 (sym (drop_at xs ys 8 lx) ∙ (ap (drop 8) e ∙ drop_at us vs 8 lu)))
   where
     apart : false ≡ true → ⊥
-    apart e = let z : ◌≡◌ {A = ℕ} 0 1 = cc in omega arith
+    apart e = cc
 both false p xs ys us vs lx lu dh dp =
     ((λ e. absurd (apart e)), λ e. dh.1 (sym (take_at xs ys 8 lx) ∙ (ap (take 8) e ∙ take_at us vs 8 lu)))
   where
     apart : false ≡ true → ⊥
-    apart e = let z : ◌≡◌ {A = ℕ} 0 1 = cc in omega arith
+    apart e = cc
 
 -- a block's body is right where its head and its places are
 pub body_both : (k : ℕ) (b : List ℕ) (rs : List (ℕ × ℕ)) (h p : Bool) → 8 ≤ length b → Decides h (take 8 b ≡ block_head k (length rs)) → Decides p (take 500 (drop 8 b) ≡ block_places rs) → (h && p) ≡ body_right k b rs
@@ -44,6 +44,3 @@ body_both k b rs h p long dh dp =
     (both h p (take 8 b) (take 500 (drop 8 b)) (block_head k (length rs)) (block_places rs) (length-take-le 8 b long) refl dh dp)
     (sym (body_parts b))
     refl
-
-pub row_drop : (bs : List ℕ) (at : ℕ) → row_read (drop at bs) ≡ (get_or bs at 0 + get_or bs (at + 1) 0 * 256 + get_or bs (at + 2) 0 * 65536 + get_or bs (at + 3) 0 * 16777216, get_or bs (at + 4) 0 + get_or bs (at + 5) 0 * 256)
-row_drop bs at = simp (get_or-drop, add-zero)

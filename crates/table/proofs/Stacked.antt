@@ -1,9 +1,8 @@
 -- Blocks one behind another. Assumes nothing.
-use Rattle.std.proofs.Common.{◌≡◌, ℕ, zero, suc, ◌+◌, ◌-◌, ◌*◌, ◌/◌, ◌<◌, ◌≤◌, List, [], ◌∷◌, ◌++◌, length, take, drop, set, sym, refl, ap, ◌∙◌, ⊎_elim, zero-add, arith}
+use Rattle.std.proofs.Common.{◌≡◌, ℕ, zero, suc, ◌+◌, ◌*◌, ◌/◌, ◌<◌, ◌≤◌, List, [], ◌∷◌, ◌++◌, length, take, drop, sym, refl, ap, ◌∙◌, ⊎_elim, zero-add, arith}
 use Rattle.std.specs.List.{range_with_len, flat_map}
 use Rattle.std.proofs.lemmas.List.FromFn.{map-range_with_len_more}
-use Rattle.std.proofs.lemmas.List.{map-id, length-append, length-take, length-drop, flat_map_more, take_all, take_at, take-take, take-append-le, drop-append-le, take_more_set, length-take-le, length_push}
-use Rattle.std.proofs.lemmas.Slice.{between_is}
+use Rattle.std.proofs.lemmas.List.{map-id, length-append, length-take, length-drop, flat_map_more, take_all, take_at, take-take, take-append-le, drop-append-le, length_push}
 use Rattle.std.proofs.lemmas.Bool.{cases_lt}
 use Rattle.table.specs.Text.{over}
 use Rattle.table.specs.Binary.{block_bytes, rows_of_block, block_count, binary_bytes}
@@ -82,14 +81,9 @@ binary_more rs r =
     (full_blocks rs ∙ joined_same (block_of rs) (block_of more) 0 k (λ j h. ap (block_bytes j) (same_rows rs r j (omega arith))))
     ∙ (sym (joined_next (block_of more) k) ∙ ap (λ n. flat_map (block_of more) (range_with_len 0 n)) e)
 
--- the rows of the block that the new row falls into, as they stand in the holder
-pub last_rows : (rows : List (ℕ × ℕ)) (n : ℕ) (r : ℕ × ℕ) → n < length rows → take (n + 1 - 62 * (n / 62)) (drop (62 * (n / 62)) (set rows n r)) ≡ rows_of_block (take n rows ++ (r ∷ [])) (n / 62)
-last_rows rows n r h =
-    let k = n / 62 in
-    let held = length_push (take n rows) r in
-    let short : length (drop (62 * k) (take n rows ++ (r ∷ []))) ≤ 62 = omega (arith, held, length-take-le n rows (omega arith), length-drop (62 * k) (take n rows ++ (r ∷ []))) in
-    between_is (set rows n r) (62 * k) (n + 1)
-    ∙ (ap (drop (62 * k)) (take_more_set rows n r h) ∙ sym (take_all 62 (drop (62 * k) (take n rows ++ (r ∷ []))) short))
+-- the rows of the block that the new row falls into
+pub last_rows : (rs : List (ℕ × ℕ)) (r : ℕ × ℕ) → drop (62 * (length rs / 62)) (rs ++ (r ∷ [])) ≡ rows_of_block (rs ++ (r ∷ [])) (length rs / 62)
+last_rows rs r = sym (take_all 62 _ (omega (arith, length_push rs r, length-drop (62 * (length rs / 62)) (rs ++ (r ∷ [])))))
 
 -- a row put into the block at place n / 62
 pub blocks_more : (bs : List ℕ) (rs : List (ℕ × ℕ)) (r : ℕ × ℕ) → 512 * (length rs / 62) ≤ length bs → take (512 * block_count (length rs)) bs ≡ binary_bytes rs → take (512 * block_count (length (rs ++ (r ∷ [])))) (over bs (512 * (length rs / 62)) (block_of (rs ++ (r ∷ [])) (length rs / 62))) ≡ binary_bytes (rs ++ (r ∷ []))

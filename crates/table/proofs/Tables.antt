@@ -1,6 +1,6 @@
 -- A table's text as rows are put into it. Assumes nothing.
-use Rattle.std.proofs.Common.{◌≡◌, ℕ, ◌+◌, ◌<◌, ◌≤◌, List, [], ◌∷◌, ◌++◌, length, take, set, decimal, sym, ap, ◌∙◌, arith}
-use Rattle.std.proofs.lemmas.List.{length-take-le, take_more_set, flat_map_more}
+use Rattle.std.proofs.Common.{◌≡◌, ℕ, ◌+◌, ◌<◌, ◌≤◌, List, [], ◌∷◌, ◌++◌, length, take, decimal, sym, ap, ◌∙◌, arith}
+use Rattle.std.proofs.lemmas.List.{length-take-le, flat_map_more}
 use Rattle.std.proofs.lemmas.Fmt.{length-decimal-le}
 use Rattle.table.specs.Text.{row_text, table_text, over}
 use Rattle.table.proofs.Written.{take_over, length_spaced}
@@ -23,8 +23,5 @@ pub used_is : (used : ℕ) (bs : List ℕ) (rs : List (ℕ × ℕ)) → used ≤
 used_is used bs rs h e = omega (arith, length-take-le used bs h, ap length e)
 
 -- a row put behind the others
-pub text_more : (used : ℕ) (bs : List ℕ) (rows : List (ℕ × ℕ)) (n : ℕ) (r : ℕ × ℕ) → n < length rows → used ≤ length bs → take used bs ≡ table_text (take n rows) → take (used + length (row_text r)) (over bs used (row_text r)) ≡ table_text (take (n + 1) (set rows n r))
-text_more used bs rows n r here h e =
-    take_over bs used (row_text r) h
-    ∙ (ap (λ (t : List ℕ). t ++ row_text r) e
-    ∙ (sym (table_text_more (take n rows) r) ∙ ap table_text (sym (take_more_set rows n r here))))
+pub text_more : (used : ℕ) (bs : List ℕ) (rs : List (ℕ × ℕ)) (r : ℕ × ℕ) → used ≤ length bs → take used bs ≡ table_text rs → take (used + length (row_text r)) (over bs used (row_text r)) ≡ table_text (rs ++ (r ∷ []))
+text_more used bs rs r h e = take_over bs used (row_text r) h ∙ (ap (λ (t : List ℕ). t ++ row_text r) e ∙ sym (table_text_more rs r))

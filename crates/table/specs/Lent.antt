@@ -1,11 +1,11 @@
 -- What a text table holds. Assumes nothing.
-use Rattle.std.specs.Prelude.{ℕ, ◌≤◌, List, length, take}
-use Rattle.std.proofs.Common.{arith, length-take}
+use Rattle.std.specs.Prelude.{ℕ, ◌≤◌, List, length}
+use Rattle.std.proofs.Common.{arith}
 use Rattle.table.specs.declared.text.TextTable.{TextTable}
 use Rattle.table.specs.Text.{text_room}
 
 abbrev pub text_rows : TextTable → List (ℕ × ℕ)
-text_rows t = take t.len t.rows
+text_rows t = t.rows.items
 
 -- all of the lent bytes, in use or not
 abbrev pub text_bytes : TextTable → List ℕ
@@ -15,4 +15,4 @@ pub text_bounded : (t : TextTable) → text_room (text_bytes t) ≤ 1024
 text_bounded t = omega arith
 
 pub text_within : (t : TextTable) → length (text_rows t) ≤ text_room (text_bytes t)
-text_within t = omega (arith, length-take t.len t.rows, t.few, t.fits)
+text_within t = t.fits

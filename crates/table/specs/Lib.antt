@@ -2,7 +2,6 @@ pub mod Rows
 pub mod Convert
 pub mod Text
 pub mod Lent
-pub mod Numerals
 pub mod Binary
 pub mod Held
 pub mod Opening

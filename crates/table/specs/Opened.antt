@@ -1,13 +1,10 @@
 -- The rows that opening gives. Assumes nothing.
-use Rattle.std.specs.Prelude.{ℕ, List, [], take, Ok, Err, Result}
+use Rattle.std.specs.Prelude.{ℕ, List, [], Ok, Err, Result}
+use Rattle.arrayvec.specs.ArrayVec.{ArrayVec}
 use Rattle.fault.specs.declared.Fault.{Fault}
-use Rattle.table.specs.declared.opening.OpenRows.{OpenRows}
 
-abbrev pub open_rows : OpenRows → List (ℕ × ℕ)
-open_rows t = take t.len t.rows
-
-abbrev pub rows_answered : Result OpenRows Fault → Result (List (ℕ × ℕ)) Fault
-rows_answered (Ok t) = Ok (open_rows t)
+abbrev pub rows_answered : Result (ArrayVec (ℕ × ℕ)) Fault → Result (List (ℕ × ℕ)) Fault
+rows_answered (Ok v) = Ok v.items
 rows_answered (Err e) = Err e
 
 -- refused bytes have no rows

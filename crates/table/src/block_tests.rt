@@ -33,7 +33,7 @@ fn come_back(rt: &impl Abort, rows: u32, blocks: usize) -> Result<(), Fail> {
     put_rising(&mut table, 0, rows)?;
     assert_eq!(rt; table.blocks().len() / 512, blocks, "{rows} rows");
     let found = open(table.blocks())?;
-    assert_eq!(rt; found.rows().len(), rows as usize, "{rows} rows");
+    assert_eq!(rt; found.len(), rows as usize, "{rows} rows");
     Ok(())
 }
 

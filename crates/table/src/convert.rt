@@ -2,28 +2,25 @@
 ghost use Rattle.std.specs.Prelude.{◌≡◌, ◌<◌, ◌≤◌};
 ghost use Rattle.table.specs.Convert.{first_at_least, straight_line, conversion, Rising, Orderly};
 
-use crate::holder::Holder;
+use crate::holder::{Holder, Row, rows};
 use fault::{Fault, Question};
 
-// The place of the first row that reaches the count, or the number of rows where none does.
+// How many rows stand before the first that reaches the count. No Option: where none does, all rows do.
 fn find<H: Holder>(holder: &H, count: u32) -> usize
     ensures { result ≡ first_at_least (H.listed holder.now) count }
 {
-    let mut i = 0;
-    while let Some((c, _)) = holder.row(i) {
-        if count <= c {
-            break;
-        }
-        i += 1;
-    }
-    i
+    rows(holder)
+        .position(|(c, _)| count <= c)
+        .unwrap_or(holder.len())
 }
 
 // The level on the straight line between two rows, at a count between theirs.
-fn between(k0: u32, l0: u16, k1: u32, l1: u16, count: u32) -> u16
-    requires { (k0 < count) × ((count < k1) × (l0 ≤ l1)) }
-    ensures { result ≡ straight_line k0 l0 k1 l1 count }
+fn between(before: Row, after: Row, count: u32) -> u16
+    requires { (before.0 < count) × ((count < after.0) × (before.1 ≤ after.1)) }
+    ensures { result ≡ straight_line before.0 before.1 after.0 after.1 count }
 {
+    let (k0, l0) = before;
+    let (k1, l1) = after;
     let rise = (l1 - l0) as u64;
     let part = rise * (count - k0) as u64 / (k1 - k0) as u64;
     l0 + part as u16
@@ -54,5 +51,5 @@ pub fn convert<H: Holder>(holder: &H, count: u32) -> Result<u16, Fault>
     if l1 < l0 {
         return Err(Fault::plain(Question::ConvertFalls));
     }
-    Ok(between(k0, l0, k1, l1, count))
+    Ok(between((k0, l0), (k1, l1), count))
 }

@@ -1,9 +1,10 @@
 // What every holder of rows means and does.
-ghost use Rattle.std.specs.Prelude.{◌≡◌, ℕ, ◌≤◌, List, [], ◌∷◌, ◌++◌, length};
+ghost use Rattle.std.specs.Prelude.{◌≡◌, ℕ, ◌≤◌, List, [], ◌∷◌, ◌++◌, length, drop};
 ghost use Rattle.std.specs.List.{slice_get};
+ghost use Rattle.std.specs.Iterator.{YieldsFirst, item_count};
 ghost use Rattle.table.specs.Rows.{put_answer, once_accepted};
 
-use fault::Fault;
+use fault::{Fault, Question};
 
 // A row: its count, at most MAX_COUNT, and its level.
 pub type Row = (u32, u16);
@@ -59,4 +60,46 @@ pub trait Holder {
     // The most rows that it can keep.
     fn capacity(&self) -> usize
         ensures { result ≡ room self.now };
+}
+
+// Goes over the rows of a holder, first to last.
+#[derive(Drop)]
+pub struct Iter<'a, H> {
+    holder: &'a H,
+    next: usize,
+}
+
+impl<'a, H: Holder> Iterator for Iter<'a, H> {
+    type Item = Row;
+
+    ghost next_gives = { YieldsFirst (λ s. drop s.next (H.listed s.holder.now)) };
+
+    ghost remaining = { item_count (λ s. drop s.next (H.listed s.holder.now)) };
+
+    fn next(&mut self) -> Option<Row> {
+        let row = self.holder.row(self.next)?;
+        self.next += 1;
+        Some(row)
+    }
+}
+
+// The rows of a holder, first to last.
+pub fn rows<H: Holder>(holder: &H) -> Iter<'_, H>
+    ensures { drop result.next (H.listed result.holder.now) ≡ H.listed holder.now }
+{
+    Iter { holder, next: 0 }
+}
+
+// Whether a row of this count may be put behind the rows of a holder: the first question that
+// refuses it, else nothing.
+pub(crate) fn check_put(rows: &[Row], capacity: usize, count: u32) -> Result<(), Fault>
+    ensures { result ≡ put_answer capacity rows.now count }
+{
+    if count > MAX_COUNT {
+        return Err(Fault::plain(Question::PutCount));
+    }
+    if rows.len() >= capacity {
+        return Err(Fault::plain(Question::PutRoom));
+    }
+    Ok(())
 }

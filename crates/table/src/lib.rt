@@ -6,9 +6,7 @@ mod block;
 #[cfg(test)]
 mod block_tests;
 pub mod convert;
-mod digits;
 pub mod holder;
-pub mod numeral;
 pub mod opening;
 #[cfg(test)]
 mod tests;

@@ -5,11 +5,12 @@ ghost use Rattle.table.specs.Opening.{opened};
 ghost use Rattle.table.specs.Opened.{rows_or_none};
 ghost use Rattle.table.specs.Held.{binary_rows, binary_memory, binary_bounded, binary_within};
 
-use crate::binary::{BinaryTable, Memory};
-use crate::block::{BLOCK_BYTES, BLOCK_ROWS, block_bytes};
-use crate::holder::{Holder, MAX_COUNT, MAX_ROWS, Row};
+use crate::binary::BinaryTable;
+use crate::block::{BLOCK_BYTES, BLOCK_ROWS, Block, write};
+use crate::holder::{Holder, MAX_ROWS, Row, check_put};
 use crate::opening::open;
-use fault::{Fault, Question};
+use arrayvec::ArrayVec;
+use fault::Fault;
 
 impl<'a> BinaryTable<'a> {
     // A table with no rows, whatever the bytes are.
@@ -18,9 +19,8 @@ impl<'a> BinaryTable<'a> {
         ensures bytes { binary_memory result ≡ bytes.old }
     {
         BinaryTable {
-            page: Memory { bytes },
-            rows: [(0, 0); MAX_ROWS],
-            len: 0,
+            bytes,
+            rows: ArrayVec::new(),
         }
     }
 
@@ -30,22 +30,17 @@ impl<'a> BinaryTable<'a> {
         ensures rows { binary_rows result ≡ rows_or_none (opened bytes.old) }
         ensures bytes { binary_memory result ≡ bytes.old }
     {
-        let Ok(found) = open(bytes) else {
+        let Ok(rows) = open(bytes) else {
             return BinaryTable::new(bytes);
         };
-        let rows = found.rows;
-        BinaryTable {
-            page: Memory { bytes },
-            rows,
-            len: found.len,
-        }
+        BinaryTable { bytes, rows }
     }
 
     // The blocks in use.
     pub fn blocks(&self) -> &[u8]
         ensures { result.now ≡ binary_bytes (binary_rows self.now) }
     {
-        &self.page.bytes[..BLOCK_BYTES * self.len.div_ceil(BLOCK_ROWS)]
+        &self.bytes[..BLOCK_BYTES * self.rows.len().div_ceil(BLOCK_ROWS)]
     }
 
     // Adds a row that there is room for, and writes the block that it falls into.
@@ -55,12 +50,14 @@ impl<'a> BinaryTable<'a> {
         ensures room { binary_room (binary_memory self.new) ≡ binary_room (binary_memory self.old) }
         ensures bytes { binary_memory self.new ≡ binary_extended (binary_memory self.old) (binary_rows self.old) (count, level) }
     {
-        let end = self.len;
-        let number = end / BLOCK_ROWS;
-        self.rows[end] = (count, level);
-        let block = block_bytes(number as u16, &self.rows[BLOCK_ROWS * number..end + 1]);
-        self.page.put_block(number, &block);
-        self.len = end + 1;
+        let BinaryTable { bytes, rows } = self;
+        let number = rows.len() / BLOCK_ROWS;
+        rows.push((count, level));
+        let block = Block {
+            number: number as u16,
+            rows: &rows[BLOCK_ROWS * number..],
+        };
+        write(bytes, BLOCK_BYTES * number, &block.bytes());
     }
 }
 
@@ -80,29 +77,24 @@ impl<'a> Holder for BinaryTable<'a> {
     ghost extended = { binary_extended };
 
     fn clear(&mut self) {
-        self.len = 0;
+        self.rows.clear();
     }
 
     fn put(&mut self, count: u32, level: u16) -> Result<(), Fault> {
-        if count > MAX_COUNT {
-            return Err(Fault::plain(Question::PutCount));
-        }
-        if self.len() >= self.capacity() {
-            return Err(Fault::plain(Question::PutRoom));
-        }
+        check_put(&self.rows, self.capacity(), count)?;
         self.push(count, level);
         Ok(())
     }
 
     fn row(&self, i: usize) -> Option<Row> {
-        self.rows[..self.len].get(i).copied()
+        self.rows.get(i).copied()
     }
 
     fn len(&self) -> usize {
-        self.len
+        self.rows.len()
     }
 
     fn capacity(&self) -> usize {
-        (self.page.bytes.len() / BLOCK_BYTES * BLOCK_ROWS).min(MAX_ROWS)
+        (self.bytes.len() / BLOCK_BYTES * BLOCK_ROWS).min(MAX_ROWS)
     }
 }

@@ -2,27 +2,31 @@
 ghost use Rattle.std.specs.Prelude.{◌≡◌, ◌+◌, ◌≤◌, length, drop};
 ghost use Rattle.table.specs.Opening.{row_read, row_after, least_after, row_follows, first_stray, sums_right, count_right, body_right};
 
-use crate::block::{BLOCK_ROWS, SUMMED_BYTES, head_bytes, place_bytes, sum_bytes};
+use crate::block::{BLOCK_ROWS, Block, SUMMED_BYTES, sum_bytes};
 use crate::holder::{MAX_COUNT, MAX_ROWS, Row};
 
 // The least count and level that a row may have.
 pub type Least = (u64, u16);
 
-// The row whose 8 bytes begin at a place.
-pub fn row_at(bytes: &[u8], at: usize) -> Row
-    requires { at + 8 ≤ length bytes.now }
-    ensures { result ≡ row_read (drop at bytes.now) }
+// The row in a place of 8 bytes.
+pub fn row_at(place: &[u8]) -> Row
+    requires { length place.now ≡ 8 }
+    ensures { result ≡ row_read place.now }
 {
-    let count = u32::from_le_bytes([bytes[at], bytes[at + 1], bytes[at + 2], bytes[at + 3]]);
-    let level = u16::from_le_bytes([bytes[at + 4], bytes[at + 5]]);
-    (count, level)
+    let [c0, c1, c2, c3, l0, l1, ..] = place else {
+        return (0, 0);
+    };
+    (
+        u32::from_le_bytes([*c0, *c1, *c2, *c3]),
+        u16::from_le_bytes([*l0, *l1]),
+    )
 }
 
-pub fn sums_right(block: &[u8]) -> bool
-    requires { length block.now ≡ 512 }
-    ensures { result ≡ sums_right block.now }
+pub fn sums_right(bytes: &[u8]) -> bool
+    ensures { result ≡ sums_right bytes.now }
 {
-    &block[SUMMED_BYTES..] == sum_bytes(&block[..SUMMED_BYTES]).as_slice()
+    let (summed, sums) = bytes.split_at(SUMMED_BYTES.min(bytes.len()));
+    sums == sum_bytes(summed).as_slice()
 }
 
 // Whether a block may have so many rows, with so many blocks behind it and rows before it.
@@ -36,17 +40,16 @@ pub fn count_right(left: usize, before: usize, count: usize) -> bool
         && before + count <= MAX_ROWS
 }
 
-// Whether a block is, but for its sums, the one of this number with these rows.
-pub fn body_right(number: u16, block: &[u8], rows: &[Row]) -> bool
-    requires block { length block.now ≡ 512 }
-    requires rows { length rows.now ≤ 62 }
-    ensures { result ≡ body_right number block.now rows.now }
+// Whether the bytes are, but for the sums, those of a block.
+pub fn body_right(bytes: &[u8], block: &Block<'_>) -> bool
+    requires { length bytes.now ≡ 512 }
+    ensures { result ≡ body_right block.now.number bytes.now block.now.rows.now }
 {
-    let [m0, m1, count, zero, n0, n1, z0, z1, rest @ ..] = block else {
+    let [m0, m1, count, zero, n0, n1, z0, z1, rest @ ..] = bytes else {
         return false;
     };
     let head = [*m0, *m1, *count, *zero, *n0, *n1, *z0, *z1];
-    head == head_bytes(number, rows.len() as u8) && &rest[..500] == place_bytes(rows).as_slice()
+    head == block.head() && &rest[..500] == block.places().as_slice()
 }
 
 fn row_after(row: Row) -> Least
@@ -74,7 +77,7 @@ fn row_follows(least: Least, row: Row) -> bool
     least_count <= u64::from(count) && count <= MAX_COUNT && least_level <= level
 }
 
-// How many rows stand before the first that is out of order.
+// How many rows stand before the first that is out of order. No Option: where none is, all rows do.
 pub fn first_stray(mut least: Least, rows: &[Row]) -> usize
     ensures { result ≡ first_stray least rows.now }
 {

@@ -3,9 +3,10 @@ ghost use Rattle.std.specs.Prelude.{◌≡◌, ◌<◌, ◌≤◌, [], ◌∷◌
 ghost use Rattle.table.specs.Text.{table_text, text_room, text_extended, OneReading};
 ghost use Rattle.table.specs.Lent.{text_rows, text_bytes, text_bounded, text_within};
 
-use crate::holder::{Holder, MAX_COUNT, MAX_ROWS, Row};
+use crate::holder::{Holder, MAX_ROWS, Row, check_put};
 use crate::text::{Page, TextTable};
-use fault::{Fault, Question};
+use arrayvec::ArrayVec;
+use fault::Fault;
 
 // The longest row: 8 digits, a space, 5 digits and a newline.
 const ROW_BYTES: usize = 15;
@@ -18,8 +19,7 @@ impl<'a> TextTable<'a> {
     {
         TextTable {
             page: Page { bytes, used: 0 },
-            rows: [(0, 0); MAX_ROWS],
-            len: 0,
+            rows: ArrayVec::new(),
         }
     }
 
@@ -40,9 +40,8 @@ impl<'a> TextTable<'a> {
         ensures bytes { text_bytes self.new ≡ text_extended (text_bytes self.old) (text_rows self.old) (count, level) }
     {
         let row = (count, level);
-        self.page.append(row);
-        self.rows[self.len] = row;
-        self.len += 1;
+        self.page.append_row(row);
+        self.rows.push(row);
     }
 }
 
@@ -63,26 +62,21 @@ impl<'a> Holder for TextTable<'a> {
 
     fn clear(&mut self) {
         self.page.used = 0;
-        self.len = 0;
+        self.rows.clear();
     }
 
     fn put(&mut self, count: u32, level: u16) -> Result<(), Fault> {
-        if count > MAX_COUNT {
-            return Err(Fault::plain(Question::PutCount));
-        }
-        if self.len() >= self.capacity() {
-            return Err(Fault::plain(Question::PutRoom));
-        }
+        check_put(&self.rows, self.capacity(), count)?;
         self.push(count, level);
         Ok(())
     }
 
     fn row(&self, i: usize) -> Option<Row> {
-        self.rows[..self.len].get(i).copied()
+        self.rows.get(i).copied()
     }
 
     fn len(&self) -> usize {
-        self.len
+        self.rows.len()
     }
 
     fn capacity(&self) -> usize {

@@ -1,6 +1,6 @@
 use Rattle.std.proofs.Common.{◌≡◌, ◌+◌, ◌*◌, ◌<◌, length, get_or, take, sym, ap, ◌∙◌, arith, rules}
 use Rattle.std.specs.List.{flat_map}
-use Rattle.std.proofs.lemmas.List.{take_all, length-take-le}
+use Rattle.std.proofs.lemmas.List.{length-take-le}
 use Rattle.table.specs.Text.{over}
 use Rattle.table.specs.Binary.{row_bytes}
 use Rattle.table.proofs.Written.{over_join}
@@ -24,8 +24,3 @@ loop-i-preserved c =
     ∙ (ap (λ k. over (over c.args.bytes.now 0 done) k (row_bytes (get_or rows i (0, 0)))) far
     ∙ (over_join c.args.bytes.now 0 done (row_bytes (get_or rows i (0, 0))) (omega (arith, far, c.requires))
     ∙ ap (over c.args.bytes.now 0) (sym (rows_more rows i h))))))
-
-pub returns : goal.returns
-returns c =
-    c.loop-i.invariant
-    ∙ ap (λ rs. over c.args.bytes.now 0 (flat_map row_bytes rs)) (take_all c.loop-i.i c.args.rows.now c.loop-i-test.false)

@@ -1,7 +1,6 @@
 use Rattle.std.proofs.Common.{◌≡◌, ℕ, ◌-◌, List, is_some, Some, None, Ok, Err, sym, ap, ◌∙◌, arith}
 use Rattle.std.specs.List.{slice_get}
-use Rattle.std.proofs.lemmas.Option.{slice_get-get_or}
-use Rattle.table.proofs.Found.{nth_within}
+use Rattle.std.proofs.lemmas.Option.{slice_get-get_or, slice_get_within}
 use Rattle.table.proofs.Answered.{Entered, answer_empty, answer_below, answer_above, answer_exact, answer_falls, answer_between, not_first, lower, past}
 use Rattle.table.proofs.Rises.{orderly}
 use Rattle.table.proofs.convert.convert.Given as given
@@ -68,7 +67,7 @@ pub unwrap-k0-requires : goal.unwrap-k0-requires
 unwrap-k0-requires g c =
     let at = goal.at.unwrap-k0-requires g c in
     let rs = rows g at.Start in
-    let within = nth_within rs c.find-found.result _ (there g at.In-Some-row) in
+    let within = slice_get_within rs c.find-found.result _ (there g at.In-Some-row) in
     ap is_some (c.row-3.ensures ∙ slice_get-get_or rs (c.find-found.result - 1) (0, 0) (omega (arith, within)))
 
 pub returns-then-l1-l0 : goal.returns-then-l1-l0

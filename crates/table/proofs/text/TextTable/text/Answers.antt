@@ -1,6 +1,5 @@
-use Rattle.std.proofs.Common.{rules}
 use Rattle.table.proofs.Reading.{one_reading}
 use Rattle.table.proofs.text.TextTable.text.Goals as goal
 
-pub returns : goal.returns
-returns c = record { value = search rules; reading = one_reading }
+pub returns-clause-reading : goal.returns-clause-reading
+returns-clause-reading c = one_reading
