@@ -1,26 +1,13 @@
--- The order of held points, kept by an add and a drop. Assumes nothing.
-use Rattle.std.proofs.Common.{◌≡◌, ℕ, suc, ◌+◌, ◌-◌, ◌<◌, ◌≤◌, true, false, ◌||◌, eqb, ltb, List, [], ◌∷◌, ◌++◌, length, take, drop, sym, refl, ap, ◌∙◌, subst, ⊎_elim, arith, length-append, length-drop}
-use mathlib.Core.HLevel.{Unit-prop, ×_prop}
-use mathlib.Core.Logic.{∥∥₁_elim}
-use native.Mathlib.Bridge.{le_prop}
-use Rattle.std.specs.List.{AllByRecursion}
+-- The order of held points, kept by one more and by one less. Assumes nothing.
+use Rattle.std.proofs.Common.{◌≡◌, ℕ, zero, suc, ◌+◌, ◌<◌, ◌≤◌, false, eqb, ltb, List, [], ◌∷◌, ◌++◌, ◌-◌, length, take, sym, refl, ◌∙◌, subst, ⊎_elim, arith}
+use Rattle.std.specs.List.{AllByRecursion, remove}
 use Rattle.std.proofs.ByRecursion.{All-weaker}
 use Rattle.std.proofs.lemmas.List.{take_at, length-take-le}
-use Rattle.std.proofs.lemmas.Bool.{both_ways, cases_lt, cases_eq, lt-ltb, le-ltb, eq-eqb, ne_eqb, or_parts, eqb-false, cond-true, cond-false}
+use Rattle.std.proofs.lemmas.List.Edits.{length-remove}
+use Rattle.std.proofs.lemmas.Bool.{cases_lt, lt-ltb, le-ltb, or_parts, eqb-false, cond-true, cond-false}
+use Rattle.std.proofs.lemmas.Bool.Decides.{nat_tests}
 use Rattle.fit.specs.declared.Entry.{Entry}
-use Rattle.bench.specs.Held.{holds, with_point, without, RisingCounts, Ordered, gap_closed, memory_with, memory_without}
-
-all_prop : {X : Type 0} (Q : X → Type 0) → ((x : X) → IsProp (Q x)) → (xs : List X) → IsProp (AllByRecursion Q xs)
-all_prop Q h [] = Unit-prop
-all_prop Q h (x ∷ xs) = ×_prop (h x) (all_prop Q h xs)
-
-rising_prop : {P : Type 0} (es : List (Entry P)) → IsProp (RisingCounts es)
-rising_prop [] = Unit-prop
-rising_prop (x ∷ es) = ×_prop (all_prop (λ y. x.count < y.count) (λ y. le_prop) es) (rising_prop es)
-
--- the order out of a bench's ghost field
-pub ordered : {P : Type 0} (es : List (Entry P)) → ∥ Ordered es ∥₁ → Ordered es
-ordered es t = ∥∥₁_elim t (×_prop (rising_prop es) (all_prop (λ x. x.count ≤ 16777215) (λ x. le_prop) es)) (λ o. o)
+use Rattle.bench.specs.Held.{holds, with_point, RisingCounts, Ordered, memory_with}
 
 module _ {P : Type 0} where
   all_with : (Q : Entry P → Type 0) (e : Entry P) (es : List (Entry P)) → Q e → AllByRecursion Q es → AllByRecursion Q (with_point e es)
@@ -30,14 +17,6 @@ module _ {P : Type 0} where
       (λ (lt : x.count < e.count). subst (AllByRecursion Q) (sym (cond-true (ltb x.count e.count) _ _ (lt-ltb x.count e.count lt))) (a.0, all_with Q e es q a.1))
       (λ (ge : e.count ≤ x.count). subst (AllByRecursion Q) (sym (cond-false (ltb x.count e.count) _ _ (le-ltb x.count e.count ge))) (q, a))
       (cases_lt x.count e.count)
-
-  all_without : (Q : Entry P → Type 0) (c : ℕ) (es : List (Entry P)) → AllByRecursion Q es → AllByRecursion Q (without c es)
-  all_without Q c [] a = tt
-  all_without Q c (x ∷ es) a =
-      ⊎_elim
-      (λ e. subst (AllByRecursion Q) (sym (cond-true (eqb x.count c) _ _ (eq-eqb x.count c e))) a.1)
-      (λ (ne : x.count ≡ c → ⊥). subst (AllByRecursion Q) (sym (cond-false (eqb x.count c) _ _ (ne_eqb x.count c ne))) (a.0, all_without Q c es a.1))
-      (cases_eq x.count c)
 
   rising_with : (e : Entry P) (es : List (Entry P)) → RisingCounts es → holds e.count es ≡ false → RisingCounts (with_point e es)
   rising_with e [] r h = (tt, tt)
@@ -49,60 +28,40 @@ module _ {P : Type 0} where
       (all_with (λ y. x.count < y.count) e es lt r.0, rising_with e es r.1 parts.1))
       (λ (ge : e.count ≤ x.count).
       let other = eqb-false x.count e.count parts.0 in
-      let less : e.count < x.count = ⊎_elim (λ (l : e.count < x.count). l) (λ (g : x.count ≤ e.count). absurd (other (omega arith))) (cases_lt e.count x.count) in
+      let less : e.count < x.count = omega (arith, other) in
       subst RisingCounts (sym (cond-false (ltb x.count e.count) _ _ (le-ltb x.count e.count ge)))
       ((less, All-weaker (λ (y : Entry P). x.count < y.count) (λ (y : Entry P). e.count < y.count) (λ y l. omega arith) es r.0), r))
       (cases_lt x.count e.count)
 
-  rising_without : (c : ℕ) (es : List (Entry P)) → RisingCounts es → RisingCounts (without c es)
-  rising_without c [] r = tt
-  rising_without c (x ∷ es) r =
-      ⊎_elim
-      (λ e. subst RisingCounts (sym (cond-true (eqb x.count c) _ _ (eq-eqb x.count c e))) r.1)
-      (λ (ne : x.count ≡ c → ⊥). subst RisingCounts (sym (cond-false (eqb x.count c) _ _ (ne_eqb x.count c ne))) (all_without (λ y. x.count < y.count) c es r.0, rising_without c es r.1))
-      (cases_eq x.count c)
-
   pub ordered_with : (e : Entry P) (es : List (Entry P)) → e.count ≤ 16777215 → holds e.count es ≡ false → Ordered es → Ordered (with_point e es)
   ordered_with e es fits new o = (rising_with e es o.0 new, all_with (λ x. x.count ≤ 16777215) e es fits o.1)
 
-  pub ordered_without : (c : ℕ) (es : List (Entry P)) → Ordered es → Ordered (without c es)
-  ordered_without c es o = (rising_without c es o.0, all_without (λ x. x.count ≤ 16777215) c es o.1)
+  all_removed : (Q : Entry P → Type 0) (es : List (Entry P)) (at : ℕ) → AllByRecursion Q es → AllByRecursion Q (remove es at)
+  all_removed Q [] zero a = tt
+  all_removed Q [] (suc at) a = tt
+  all_removed Q (x ∷ es) zero a = a.1
+  all_removed Q (x ∷ es) (suc at) a = (a.0, all_removed Q es at a.1)
 
-  length_with : (e : Entry P) (es : List (Entry P)) → length (with_point e es) ≡ suc (length es)
+  rising_removed : (es : List (Entry P)) (at : ℕ) → RisingCounts es → RisingCounts (remove es at)
+  rising_removed [] zero r = tt
+  rising_removed [] (suc at) r = tt
+  rising_removed (x ∷ es) zero r = r.1
+  rising_removed (x ∷ es) (suc at) r = (all_removed (λ y. x.count < y.count) es at r.0, rising_removed es at r.1)
+
+  pub ordered_removed : (es : List (Entry P)) (at : ℕ) → Ordered es → Ordered (remove es at)
+  ordered_removed es at o = (rising_removed es at o.0, all_removed (λ x. x.count ≤ 16777215) es at o.1)
+
+  pub length_with : (e : Entry P) (es : List (Entry P)) → length (with_point e es) ≡ suc (length es)
   length_with e [] = refl
-  length_with e (x ∷ es) =
-      ⊎_elim
-      (λ lt. ap length (cond-true (ltb x.count e.count) (x ∷ with_point e es) (e ∷ x ∷ es) (lt-ltb x.count e.count lt)) ∙ ap suc (length_with e es))
-      (λ ge. ap length (cond-false (ltb x.count e.count) (x ∷ with_point e es) (e ∷ x ∷ es) (le-ltb x.count e.count ge)))
-      (cases_lt x.count e.count)
+  length_with e (x ∷ es) = grind (arith, nat_tests, length_with e es)
 
-  length_without : (c : ℕ) (es : List (Entry P)) → holds c es ≡ true → suc (length (without c es)) ≡ length es
-  length_without c [] h = absurd (both_ways false refl h)
-  length_without c (x ∷ es) h =
-      ⊎_elim
-      (λ e. ap (λ z. suc (length z)) (cond-true (eqb x.count c) es (x ∷ without c es) (eq-eqb x.count c e)))
-      (λ (ne : x.count ≡ c → ⊥).
-      let off = ne_eqb x.count c ne in
-      ap (λ z. suc (length z)) (cond-false (eqb x.count c) es (x ∷ without c es) off) ∙ ap suc (length_without c es (sym (ap (λ b. b || holds c es) off) ∙ h)))
-      (cases_eq x.count c)
-
-  -- the first places of the memory after an add or a drop are the held points
+  -- the first places of the memory after one more are the points
   pub held_with : (e : Entry P) (mem : List (Entry P)) (held : ℕ) → held ≤ length mem → take (held + 1) (memory_with e (take held mem) mem) ≡ with_point e (take held mem)
   held_with e mem held h = take_at (with_point e (take held mem)) _ (held + 1) (length_with e (take held mem) ∙ omega (arith, length-take-le held mem h))
 
-  pub held_without : (c : ℕ) (mem : List (Entry P)) (held left : ℕ) → held ≤ length mem → left + 1 ≡ held → holds c (take held mem) ≡ true → take left (memory_without c (take held mem) mem) ≡ without c (take held mem)
-  held_without c mem held left h one on = take_at (without c (take held mem)) _ left (omega (arith, length_without c (take held mem) on, length-take-le held mem h))
-
-  -- the memory keeps its length
-  pub length_memory_with : (e : Entry P) (mem : List (Entry P)) (held : ℕ) → held < length mem → length (memory_with e (take held mem) mem) ≡ length mem
-  length_memory_with e mem held h =
+  -- and after one less
+  pub held_removed : (mem rest : List (Entry P)) (held at : ℕ) → held ≤ length mem → at < held → take (held - 1) (remove (take held mem) at ++ rest) ≡ remove (take held mem) at
+  held_removed mem rest held at h k =
       let es = take held mem in
-      length-append (with_point e es) (drop (suc (length es)) mem) ∙ omega (arith, length_with e es, length-drop (suc (length es)) mem, length-take-le held mem (omega arith))
-
-  pub length_gap_closed : (mem : List (Entry P)) (held at : ℕ) → at < held → held ≤ length mem → length (gap_closed mem held at) ≡ length mem
-  length_gap_closed mem held at h k =
-      let a = take at mem in
-      let b = take (held - at - 1) (drop (at + 1) mem) in
-      let d = take 1 (drop at mem) in
-      let e = drop held mem in
-      omega (arith, length-append a (b ++ (d ++ e)), length-append b (d ++ e), length-append d e, length-take-le at mem (omega arith), length-take-le (held - at - 1) (drop (at + 1) mem) (omega (arith, length-drop (at + 1) mem)), length-take-le 1 (drop at mem) (omega (arith, length-drop at mem)), length-drop held mem)
+      let long : length es ≡ held = length-take-le held mem h in
+      take_at (remove es at) rest (held - 1) (omega (arith, length-remove es at (omega arith)))

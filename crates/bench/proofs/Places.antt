@@ -1,38 +1,29 @@
 -- Where a count stands among entries by rising count. Assumes nothing.
-use Rattle.std.proofs.Common.{◌≡◌, ℕ, zero, suc, ◌+◌, ◌-◌, ◌<◌, ◌≤◌, true, false, ◌||◌, eqb, ltb, List, [], ◌∷◌, ◌++◌, length, get_or, take, drop, Ok, Err, sym, refl, ap, ◌∙◌, ⊎_elim, append_assoc, add-one, arith}
-use Rattle.std.specs.List.{AllByRecursion}
+use Rattle.std.proofs.Common.{◌≡◌, ℕ, zero, suc, ◌<◌, ◌≤◌, true, false, ◌||◌, eqb, ltb, List, [], ◌∷◌, ◌++◌, length, get_or, take, drop, ◌-◌, ◌+◌, Ok, Err, Result, sym, refl, ap, ◌∙◌, ⊎_elim, arith}
+use Rattle.std.specs.List.{AllByRecursion, insert, remove}
+use Rattle.std.specs.List.Sorted.{IsBinarySearchResult, IsNonDecreasingBy, IsSearchInRange}
+use Rattle.std.specs.Ordering.{nat_cmp, ordering_index}
 use Rattle.std.proofs.ByRecursion.{All-get_or, All-weaker}
-use Rattle.std.proofs.lemmas.List.{take-take, drop-take, length-take-le}
+use Rattle.std.proofs.lemmas.List.{drop-take, take-take, length-take-le}
+use Rattle.std.proofs.lemmas.Cmp.{ranked}
 use Rattle.std.proofs.lemmas.Bool.{both_ways, cases_Bool, cases_lt, cases_eq, lt-ltb, le-ltb, eq-eqb, ne_eqb, or_right, cond-true, cond-false}
+use Rattle.std.proofs.lemmas.Bool.Decides.{nat_tests}
 use Rattle.fit.specs.declared.Entry.{Entry}
-use Rattle.bench.specs.Held.{holds, with_point, without, taken_out, RisingCounts, below_count, found_place, gap_closed, memory_with, memory_without}
+use Rattle.bench.specs.Held.{holds, with_point, without, taken_out, RisingCounts, below_count, found_place, memory_with, memory_without}
+
+-- counts rise from any place to any later one
+pub rising_at : {P : Type 0} (es : List (Entry P)) (i j : ℕ) (d : Entry P) → RisingCounts es → i < j → j < length es → (get_or es i d).count < (get_or es j d).count
+rising_at [] i j d r h k = absurd (omega arith)
+rising_at (x ∷ es) i zero d r h k = absurd (omega arith)
+rising_at (x ∷ es) zero (suc j) d r h k = All-get_or (λ (y : Entry _). x.count < y.count) es j d (omega arith) r.0
+rising_at (x ∷ es) (suc i) (suc j) d r h k = rising_at es i j d r.1 (omega arith) (omega arith)
 
 module _ {P : Type 0} (c : ℕ) where
   head_below : (x : Entry P) (es : List (Entry P)) → x.count < c → below_count c (x ∷ es) ≡ suc (below_count c es)
-  head_below x es h = cond-true (ltb x.count c) _ _ (lt-ltb x.count c h)
+  head_below x es h = grind (arith, nat_tests)
 
   head_over : (x : Entry P) (es : List (Entry P)) → c ≤ x.count → below_count c (x ∷ es) ≡ 0
-  head_over x es h = cond-false (ltb x.count c) _ _ (le-ltb x.count c h)
-
-  pub below_length : (es : List (Entry P)) → below_count c es ≤ length es
-  below_length [] = omega arith
-  below_length (x ∷ es) =
-      ⊎_elim (λ lt. omega (arith, head_below x es lt, below_length es)) (λ ge. omega (arith, head_over x es ge)) (cases_lt x.count c)
-
-  -- an entry below the count is among those counted
-  pub below_past : (es : List (Entry P)) (k : ℕ) (d : Entry P) → RisingCounts es → k < length es → (get_or es k d).count < c → k < below_count c es
-  below_past [] k d r h l = absurd (omega arith)
-  below_past (x ∷ es) zero d r h l = omega (arith, head_below x es l)
-  below_past (x ∷ es) (suc k) d r h l =
-      let first : x.count < c = omega (arith, All-get_or (λ (y : Entry P). x.count < y.count) es k d (omega arith) r.0) in
-      omega (arith, head_below x es first, below_past es k d r.1 (omega arith) l)
-
-  -- one that is not below it is not, nor is any behind it
-  pub below_upto : (es : List (Entry P)) (k : ℕ) (d : Entry P) → k < length es → c ≤ (get_or es k d).count → below_count c es ≤ k
-  below_upto [] k d h l = omega arith
-  below_upto (x ∷ es) zero d h l = omega (arith, head_over x es l)
-  below_upto (x ∷ es) (suc k) d h l =
-      ⊎_elim (λ lt. omega (arith, head_below x es lt, below_upto es k d (omega arith) l)) (λ ge. omega (arith, head_over x es ge)) (cases_lt x.count c)
+  head_over x es h = grind (arith, nat_tests)
 
   holds_head : (x : Entry P) (es : List (Entry P)) → (x.count ≡ c → ⊥) → holds c (x ∷ es) ≡ holds c es
   holds_head x es h = ap (λ b. b || holds c es) (ne_eqb x.count c h)
@@ -42,38 +33,55 @@ module _ {P : Type 0} (c : ℕ) where
   holds_none [] a = refl
   holds_none (x ∷ es) a = holds_head x es (λ e. omega (arith, a.0)) ∙ holds_none es a.1
 
-  pub holds_at : (es : List (Entry P)) (k : ℕ) (d : Entry P) → k < length es → (get_or es k d).count ≡ c → holds c es ≡ true
-  holds_at [] k d h e = absurd (omega arith)
-  holds_at (x ∷ es) zero d h e = ap (λ b. b || holds c es) (eq-eqb x.count c e)
-  holds_at (x ∷ es) (suc k) d h e = or_right (eqb x.count c) (holds c es) (holds_at es k d (omega arith) e)
+  -- a place where the count stands
+  at_count : (es : List (Entry P)) (k : ℕ) (d : Entry P) → RisingCounts es → k < length es → (get_or es k d).count ≡ c → (holds c es ≡ true) × (below_count c es ≡ k)
+  at_count [] k d r h e = absurd (omega arith)
+  at_count (x ∷ es) zero d r h e = (grind (arith, nat_tests), grind (arith, nat_tests))
+  at_count (x ∷ es) (suc k) d r h e =
+      let rest = at_count es k d r.1 (omega arith) e in
+      let below : x.count < c = omega (arith, All-get_or (λ (y : Entry P). x.count < y.count) es k d (omega arith) r.0) in
+      (or_right (eqb x.count c) (holds c es) rest.0, head_below x es below ∙ ap suc rest.1)
 
-  -- where the place sought has another count, or is past the end, there is none
-  pub holds_not : (es : List (Entry P)) → RisingCounts es → ((d : Entry P) → below_count c es < length es → (get_or es (below_count c es) d).count ≡ c → ⊥) → holds c es ≡ false
-  holds_not [] r h = refl
-  holds_not (x ∷ es) r h =
-      ⊎_elim
-      (λ (lt : x.count < c).
-      let next = head_below x es lt in
-      holds_head x es (λ e. omega arith) ∙ holds_not es r.1 (λ d l e. h d (omega (arith, next)) (ap (λ n. (get_or (x ∷ es) n d).count) next ∙ e)))
-      (λ (ge : c ≤ x.count).
-      let here = head_over x es ge in
-      let other : x.count ≡ c → ⊥ = λ e. h x (omega (arith, here)) (ap (λ n. (get_or (x ∷ es) n x).count) here ∙ e) in
-      holds_head x es other ∙ holds_none es (All-weaker (λ (y : Entry P). x.count < y.count) (λ (y : Entry P). c < y.count) (λ y l. omega arith) es r.0))
-      (cases_lt x.count c)
+  -- a place behind all lower counts and before all higher ones, where there is no other
+  at_gap : (es : List (Entry P)) (k : ℕ) → k ≤ length es → ((i : ℕ) (d : Entry P) → i < k → (get_or es i d).count < c) → ((i : ℕ) (d : Entry P) → k ≤ i → i < length es → c < (get_or es i d).count) → (holds c es ≡ false) × (below_count c es ≡ k)
+  at_gap [] k h low high = (refl, omega arith)
+  at_gap (x ∷ es) zero h low high =
+      let over : c < x.count = high 0 x (omega arith) (omega arith) in
+      let rest = at_gap es 0 (omega arith) (λ i d l. absurd (omega arith)) (λ i d l m. high (suc i) d (omega arith) (omega arith)) in
+      (holds_head x es (λ e. omega arith) ∙ rest.0, head_over x es (omega arith))
+  at_gap (x ∷ es) (suc k) h low high =
+      let under : x.count < c = low 0 x (omega arith) in
+      let rest = at_gap es k (omega arith) (λ i d l. low (suc i) d (omega arith)) (λ i d l m. high (suc i) d (omega arith) (omega arith)) in
+      (holds_head x es (λ e. omega arith) ∙ rest.0, head_below x es under ∙ ap suc rest.1)
+
+  -- the comparisons with the count rise, as a binary search asks
+  comparisons_rise : (es : List (Entry P)) → RisingCounts es → IsNonDecreasingBy (λ e. ordering_index (nat_cmp e.count c)) es
+  comparisons_rise es r i j d h k = grind (arith, nat_tests, rising_at es i j d r, λ (same : i ≡ j). ap (λ n. (get_or es n d).count) same)
+
+  -- what a binary search by count answers
+  pub searched : (es : List (Entry P)) (r : Result ℕ ℕ) → RisingCounts es → IsSearchInRange r (length es) → IsBinarySearchResult (λ e. nat_cmp e.count c) es r → r ≡ found_place c es
+  searched [] (Ok at) r h is = absurd (omega arith)
+  searched (x ∷ es) (Ok at) r h is =
+      let found = at_count (x ∷ es) at x r h (ranked _ c _ (sym (is x))) in
+      ap Ok (sym found.1) ∙ sym (cond-true (holds c (x ∷ es)) _ _ found.0)
+  searched es (Err at) r h is =
+      let parts = is (comparisons_rise es r) in
+      let none = at_gap es at h (λ i d l. ranked _ c _ (sym (parts.0 i d (omega arith) l))) (λ i d l m. ranked _ c _ (sym (parts.1 i d l m))) in
+      ap Err (sym none.1) ∙ sym (cond-false (holds c es) _ _ none.0)
 
   -- a point goes in behind those below it
-  pub with_at : (e : Entry P) (es : List (Entry P)) → e.count ≡ c → with_point e es ≡ take (below_count c es) es ++ (e ∷ drop (below_count c es) es)
+  with_at : (e : Entry P) (es : List (Entry P)) → e.count ≡ c → with_point e es ≡ insert es (below_count c es) e
   with_at e [] is = refl
   with_at e (x ∷ es) is =
       ⊎_elim
       (λ (lt : x.count < c).
-      cond-true (ltb x.count e.count) _ _ (lt-ltb x.count e.count (omega arith)) ∙ ap (λ z. x ∷ z) (with_at e es is) ∙ sym (ap (λ n. take n (x ∷ es) ++ (e ∷ drop n (x ∷ es))) (head_below x es lt)))
+      cond-true (ltb x.count e.count) _ _ (lt-ltb x.count e.count (omega arith)) ∙ ap (λ z. x ∷ z) (with_at e es is) ∙ sym (ap (λ n. insert (x ∷ es) n e) (head_below x es lt)))
       (λ (ge : c ≤ x.count).
-      cond-false (ltb x.count e.count) _ _ (le-ltb x.count e.count (omega arith)) ∙ sym (ap (λ n. take n (x ∷ es) ++ (e ∷ drop n (x ∷ es))) (head_over x es ge)))
+      cond-false (ltb x.count e.count) _ _ (le-ltb x.count e.count (omega arith)) ∙ sym (ap (λ n. insert (x ∷ es) n e) (head_over x es ge)))
       (cases_lt x.count c)
 
   -- the point of the count stands at the place sought
-  pub without_at : (es : List (Entry P)) → RisingCounts es → holds c es ≡ true → (without c es ≡ take (below_count c es) es ++ drop (suc (below_count c es)) es) × (taken_out c es ≡ take 1 (drop (below_count c es) es)) × (below_count c es < length es)
+  without_at : (es : List (Entry P)) → RisingCounts es → holds c es ≡ true → (without c es ≡ remove es (below_count c es)) × (taken_out c es ≡ take 1 (drop (below_count c es) es)) × (below_count c es < length es)
   without_at [] r h = absurd (both_ways false refl h)
   without_at (x ∷ es) r h =
       ⊎_elim
@@ -81,7 +89,7 @@ module _ {P : Type 0} (c : ℕ) where
       let other : x.count ≡ c → ⊥ = λ e. omega arith in
       let next = head_below x es lt in
       let rest = without_at es r.1 (sym (holds_head x es other) ∙ h) in (
-        cond-false (eqb x.count c) _ _ (ne_eqb x.count c other) ∙ ap (λ z. x ∷ z) rest.0 ∙ sym (ap (λ n. take n (x ∷ es) ++ drop (suc n) (x ∷ es)) next),
+        cond-false (eqb x.count c) _ _ (ne_eqb x.count c other) ∙ ap (λ z. x ∷ z) rest.0 ∙ sym (ap (remove (x ∷ es)) next),
         cond-false (eqb x.count c) _ _ (ne_eqb x.count c other) ∙ rest.1 ∙ sym (ap (λ n. take 1 (drop n (x ∷ es))) next),
         omega (arith, next, rest.2),
       ))
@@ -90,68 +98,62 @@ module _ {P : Type 0} (c : ℕ) where
       let same : x.count ≡ c =
       ⊎_elim (λ e. e) (λ (ne : x.count ≡ c → ⊥). absurd (both_ways (holds c es) (holds_none es (All-weaker (λ (y : Entry P). x.count < y.count) (λ (y : Entry P). c < y.count) (λ y l. omega arith) es r.0)) (sym (holds_head x es ne) ∙ h))) (cases_eq x.count c) in
       let yes' = eq-eqb x.count c same in (
-        cond-true (eqb x.count c) _ _ yes' ∙ sym (ap (λ n. take n (x ∷ es) ++ drop (suc n) (x ∷ es)) here),
+        cond-true (eqb x.count c) _ _ yes' ∙ sym (ap (remove (x ∷ es)) here),
         cond-true (eqb x.count c) _ _ yes' ∙ sym (ap (λ n. take 1 (drop n (x ∷ es))) here),
         omega (arith, here),
       ))
       (cases_lt x.count c)
 
-  pub found_yes : (es : List (Entry P)) (at : ℕ) → at ≡ below_count c es → holds c es ≡ true → Ok at ≡ found_place c es
-  found_yes es at is h = ap Ok is ∙ sym (cond-true (holds c es) _ _ h)
-
-  pub found_no : (es : List (Entry P)) (at : ℕ) → at ≡ below_count c es → holds c es ≡ false → Err at ≡ found_place c es
-  found_no es at is h = ap Err is ∙ sym (cond-false (holds c es) _ _ h)
-
-module _ {P : Type 0} (mem : List (Entry P)) (held at : ℕ) where
-  front_of : at ≤ held → take at (take held mem) ≡ take at mem
-  front_of h = take-take at held mem h
-
-  back_of : (k : ℕ) → k ≤ held → drop k (take held mem) ≡ take (held - k) (drop k mem)
-  back_of k h = ap (λ n. drop k (take n mem)) (omega arith) ∙ drop-take k (held - k) mem
-
-  pub memory_with_at : (e : Entry P) → at ≤ held → held < length mem → at ≡ below_count e.count (take held mem) → take at mem ++ (e ∷ (take (held - at) (drop at mem) ++ drop (held + 1) mem)) ≡ memory_with e (take held mem) mem
-  memory_with_at e h k is =
-      let es = take held mem in
-      let rest = drop (suc (length es)) mem in
-      let placed : with_point e es ≡ take at es ++ (e ∷ drop at es) = with_at e.count e es refl ∙ ap (λ n. take n es ++ (e ∷ drop n es)) (sym is) in
-      let width : held + 1 ≡ suc (length es) = omega (arith, length-take-le held mem (omega arith)) in
-      let past : drop (held + 1) mem ≡ rest = ap (λ n. drop n mem) width in
-      sym (ap (λ z. z ++ rest) placed ∙ append_assoc (take at es) (e ∷ drop at es) rest ∙ (λ i. front_of h i ++ (e ∷ (back_of at h i ++ sym past i))))
-
-  pub memory_without_at : (c : ℕ) → held ≤ length mem → at ≡ below_count c (take held mem) → RisingCounts (take held mem) → holds c (take held mem) ≡ true → gap_closed mem held at ≡ memory_without c (take held mem) mem
-  memory_without_at c k is r h =
-      let es = take held mem in
-      let long = length-take-le held mem k in
-      let out = without_at c es r h in
-      let inside : at < held = omega (arith, out.2) in
-      let width : held - (at + 1) ≡ held - at - 1 = omega arith in
-      let behind : drop (suc at) es ≡ take (held - at - 1) (drop (at + 1) mem) = ap (λ n. drop n es) (sym (add-one at)) ∙ back_of (at + 1) (omega arith) ∙ ap (λ n. take n (drop (at + 1) mem)) width in
-      let front : without c es ≡ take at mem ++ take (held - at - 1) (drop (at + 1) mem) =
-      out.0 ∙ ap (λ n. take n es ++ drop (suc n) es) (sym is) ∙ (λ i. front_of (omega arith) i ++ behind i) in
-      let one : taken_out c es ≡ take 1 (drop at mem) =
-      out.1 ∙ ap (λ n. take 1 (drop n es)) (sym is) ∙ ap (take 1) (back_of at (omega arith)) ∙ take-take 1 (held - at) (drop at mem) (omega arith) in
-      let past : drop (length es) mem ≡ drop held mem = ap (λ n. drop n mem) long in
-      sym ((λ i. front i ++ (one i ++ past i)) ∙ append_assoc (take at mem) (take (held - at - 1) (drop (at + 1) mem)) (take 1 (drop at mem) ++ drop held mem))
-
 module _ {P : Type 0} (c : ℕ) (es : List (Entry P)) (at : ℕ) where
-  pub absent : Err at ≡ found_place c es → (at ≡ below_count c es) × (holds c es ≡ false)
+  absent : Err at ≡ found_place c es → (at ≡ below_count c es) × (holds c es ≡ false)
   absent e =
       ⊎_elim
       (λ (on : holds c es ≡ true).
-      let clash : Err at ≡ Ok (below_count c es) = e ∙ cond-true (holds c es) _ _ on in
-      let z : ◌≡◌ {A = ℕ} 0 1 = cc in absurd (omega arith))
+      let clash : Err at ≡ Ok (below_count c es) = e ∙ cond-true (holds c es) _ _ on in cc)
       (λ (off : holds c es ≡ false).
       let same : Err at ≡ Err (below_count c es) = e ∙ cond-false (holds c es) _ _ off in
       let is : at ≡ below_count c es = cc in (is, off))
       (cases_Bool (holds c es))
 
-  pub present : Ok at ≡ found_place c es → (at ≡ below_count c es) × (holds c es ≡ true)
+  present : Ok at ≡ found_place c es → (at ≡ below_count c es) × (holds c es ≡ true)
   present e =
       ⊎_elim
       (λ (on : holds c es ≡ true).
       let same : Ok at ≡ Ok (below_count c es) = e ∙ cond-true (holds c es) _ _ on in
       let is : at ≡ below_count c es = cc in (is, on))
       (λ (off : holds c es ≡ false).
-      let clash : Ok at ≡ Err (below_count c es) = e ∙ cond-false (holds c es) _ _ off in
-      let z : ◌≡◌ {A = ℕ} 0 1 = cc in absurd (omega arith))
+      let clash : Ok at ≡ Err (below_count c es) = e ∙ cond-false (holds c es) _ _ off in cc)
       (cases_Bool (holds c es))
+
+-- the point found at a place, and what is left without it
+pub record Out {P : Type 0} (c : ℕ) (mem : List (Entry P)) (held at : ℕ) : Type 0 where
+  pub on : holds c (take held mem) ≡ true
+  pub inside : at < held
+  pub left : remove (take held mem) at ≡ without c (take held mem)
+  pub memory : remove (take held mem) at ++ (take 1 (drop at mem) ++ drop held mem) ≡ memory_without c (take held mem) mem
+
+pub taken_at : {P : Type 0} (c : ℕ) (mem : List (Entry P)) (held at : ℕ) → held ≤ length mem → RisingCounts (take held mem) → Ok at ≡ found_place c (take held mem) → Out c mem held at
+taken_at c mem held at h r is =
+    let es = take held mem in
+    let long : length es ≡ held = length-take-le held mem h in
+    let found = present c es at is in
+    let out = without_at c es r found.1 in
+    let inside : at < held = omega (arith, found.0, out.2) in
+    let left : remove es at ≡ without c es = ap (remove es) found.0 ∙ sym out.0 in
+    let cut : drop at es ≡ take (held - at) (drop at mem) = ap (λ n. drop at (take n mem)) {y = at + (held - at)} (omega arith) ∙ drop-take at (held - at) mem in
+    let one : take 1 (drop at mem) ≡ taken_out c es = sym (out.1 ∙ ap (λ n. take 1 (drop n es)) (sym found.0) ∙ ap (take 1) cut ∙ take-take 1 (held - at) (drop at mem) (omega arith)) in
+    record { on = found.1; inside = inside; left = left; memory = (λ i. left i ++ (one i ++ drop (sym long i) mem)) }
+
+-- a place where the entry's count is not found
+pub record In {P : Type 0} (e : Entry P) (mem : List (Entry P)) (held at : ℕ) : Type 0 where
+  pub off : holds e.count (take held mem) ≡ false
+  pub more : insert (take held mem) at e ++ drop (held + 1) mem ≡ memory_with e (take held mem) mem
+
+pub put_at : {P : Type 0} (e : Entry P) (mem : List (Entry P)) (held at : ℕ) → held ≤ length mem → Err at ≡ found_place e.count (take held mem) → In e mem held at
+put_at e mem held at h is =
+    let es = take held mem in
+    let long : length es ≡ held = length-take-le held mem h in
+    let found = absent e.count es at is in
+    let width : held + 1 ≡ suc (length es) = omega arith in
+    let placed : insert es at e ≡ with_point e es = ap (λ n. insert es n e) found.0 ∙ sym (with_at e.count e es refl) in
+    record { off = found.1; more = (λ i. placed i ++ drop (width i) mem) }

@@ -8,22 +8,13 @@ use Rattle.fit.specs.Cheapest.{NeverFalls}
 use Rattle.fit.specs.declared.Entry.{Entry}
 use Rattle.table.specs.Convert.{conversion, Rising, Orderly}
 use Rattle.table.specs.Rows.{once_accepted, count_at, level_at}
-use Rattle.bench.specs.Held.{with_point, without, RisingCounts, add_answer, drop_answer, lay_answer}
+use Rattle.bench.specs.Held.{without, RisingCounts, drop_answer, lay_answer}
 use Rattle.bench.specs.Runs.{History, held_after, table_after, converted_since, TableOf, InOrder, Lawful, Keeps}
+use Rattle.bench.proofs.Places.{rising_at}
 use Rattle.bench.specs.Runs.Event.{added, dropped, laid, converted}
 
 module _ {P : Type 0} (places top room : ℕ) where
-  pub opened : Keeps {P = P} places top room [] [] []
-  opened = record { held = refl; table = refl; lawful = tt }
-
   module _ (h : History P) (es : List (Entry P)) (rs : List (ℕ × ℕ)) (k : Keeps places top room h es rs) where
-    pub step_add : (c : ℕ) (p : P) (r : Result (Unit {0}) Fault) (after : List (Entry P)) → r ≡ add_answer places es c → after ≡ once_accepted r (with_point (record { count = c; point = p }) es) es → Keeps places top room (added c p r ∷ h) after rs
-    step_add c p r after is held = record {
-      held = held ∙ ap (λ x. once_accepted r (with_point (record { count = c; point = p }) x) x) k.held;
-      table = k.table;
-      lawful = (is ∙ ap (λ x. add_answer places x c) k.held, k.lawful);
-    }
-
     pub step_drop : (c : ℕ) (r : Result (Unit {0}) Fault) (after : List (Entry P)) → r ≡ drop_answer es c → after ≡ once_accepted r (without c es) es → Keeps places top room (dropped c r ∷ h) after rs
     step_drop c r after is held = record {
       held = held ∙ ap (λ x. once_accepted r (without c x) x) k.held;
@@ -40,16 +31,11 @@ module _ {P : Type 0} (places top room : ℕ) where
 
 -- ---- what a table of points is worth to a conversion
 
-count_over : {P : Type 0} (n : ℕ) (es : List (Entry P)) (j : ℕ) → AllByRecursion (λ y. n < y.count) es → j < length es → n < get_or (map (λ (e : Entry P). e.count) es) j 0
-count_over n [] j a h = absurd (omega arith)
-count_over n (x ∷ es) zero a h = a.0
-count_over n (x ∷ es) (suc j) a h = count_over n es j a.1 (omega arith)
-
 counts_rise : {P : Type 0} (es : List (Entry P)) (i j : ℕ) → RisingCounts es → i < j → j < length es → get_or (map (λ (e : Entry P). e.count) es) i 0 < get_or (map (λ (e : Entry P). e.count) es) j 0
 counts_rise [] i j r h k = absurd (omega arith)
-counts_rise (x ∷ es) i zero r h k = absurd (omega arith)
-counts_rise (x ∷ es) zero (suc j) r h k = count_over x.count es j r.0 (omega arith)
-counts_rise (x ∷ es) (suc i) (suc j) r h k = counts_rise es i j r.1 (omega arith) (omega arith)
+counts_rise {P} (x ∷ es) i j r h k =
+    let count = λ (e : Entry P). e.count in
+    omega (arith, get_or-map count (x ∷ es) i x 0 (omega arith), get_or-map count (x ∷ es) j x 0 k, rising_at (x ∷ es) i j x r h k)
 
 level_over : (l : ℕ) (ls : List ℕ) (j : ℕ) → NeverFalls (l ∷ ls) → j < length (l ∷ ls) → l ≤ get_or (l ∷ ls) j 0
 level_over l ls zero f h = omega arith

@@ -1,6 +1,8 @@
 -- Held points: a list of entries by rising count. Assumes nothing.
-use Rattle.std.specs.Prelude.{ℕ, suc, ◌+◌, ◌-◌, ◌<◌, ◌≤◌, min, Bool, false, cond, not, ◌||◌, List, [], ◌∷◌, ◌++◌, length, take, drop, ℤ, Ok, Err, Result, ◌==◌, nat_le, nat_lt}
-use Rattle.std.specs.List.{AllByRecursion}
+use Rattle.std.specs.Prelude.{ℕ, suc, ◌<◌, ◌≤◌, min, Bool, false, cond, not, ◌||◌, List, [], ◌∷◌, ◌++◌, length, map, drop, ℤ, Ok, Err, Result, ◌==◌, nat_le, nat_lt}
+use mathlib.Core.HLevel.{Unit-prop, ×_prop}
+use native.Mathlib.Bridge.{le_prop}
+use Rattle.std.specs.List.{AllByRecursion, AllByRecursion-prop, zip}
 use Rattle.fault.specs.Asked.{asked}
 use Rattle.fault.specs.declared.Fault.{Fault}
 use Rattle.fault.specs.declared.Question.TheVariants.{AddCount, AddTwice, AddFull, DropNone, LayNone, LayRoom}
@@ -36,6 +38,14 @@ RisingCounts (x ∷ es) = AllByRecursion (λ y. x.count < y.count) es × RisingC
 abbrev pub Ordered : {P : Type 0} → List (Entry P) → Type 0
 Ordered es = RisingCounts es × AllByRecursion (λ x. x.count ≤ 16777215) es
 
+-- that holds in one way at most
+RisingCounts-prop : {P : Type 0} (es : List (Entry P)) → IsProp (RisingCounts es)
+RisingCounts-prop [] = Unit-prop
+RisingCounts-prop (x ∷ es) = ×_prop (AllByRecursion-prop (λ y. x.count < y.count) (λ y. le_prop) es) (RisingCounts-prop es)
+
+pub Ordered-prop : {P : Type 0} (es : List (Entry P)) → IsProp (Ordered es)
+Ordered-prop es = ×_prop (RisingCounts-prop es) (AllByRecursion-prop (λ x. x.count ≤ 16777215) (λ x. le_prop) es)
+
 -- how many of the first entries lie below a count
 abbrev pub below_count : {P : Type 0} → ℕ → List (Entry P) → ℕ
 below_count c [] = 0
@@ -44,10 +54,6 @@ below_count c (x ∷ es) = cond (nat_lt x.count c) (suc (below_count c es)) 0
 -- where the point of a count stands, or else where it would
 abbrev pub found_place : {P : Type 0} → ℕ → List (Entry P) → Result ℕ ℕ
 found_place c es = cond (holds c es) (Ok (below_count c es)) (Err (below_count c es))
-
--- the first `held` entries with the one at a place taken out and put behind the others
-abbrev pub gap_closed : {P : Type 0} → List (Entry P) → ℕ → ℕ → List (Entry P)
-gap_closed mem held at = take at mem ++ (take (held - at - 1) (drop (at + 1) mem) ++ (take 1 (drop at mem) ++ drop held mem))
 
 -- as many places as the memory has, at most 1,024
 abbrev pub places_of : {P : Type 0} → List (Entry P) → ℕ
@@ -73,9 +79,7 @@ memory_without c es mem = without c es ++ (taken_out c es ++ drop (length es) me
 
 -- a row for each point, with its level
 abbrev pub rows_of : {P : Type 0} → List (Entry P) → List ℕ → List (ℕ × ℕ)
-rows_of [] ls = []
-rows_of (e ∷ es) [] = []
-rows_of (e ∷ es) (l ∷ ls) = (e.count, l) ∷ rows_of es ls
+rows_of es ls = zip (map (λ e. e.count) es) ls
 
 -- the rows of a lay: each point's count with its max-min level
 abbrev pub laid_rows : {P : Type 0} → (P → ℕ → ℤ) → ℕ → List (Entry P) → List (ℕ × ℕ)

@@ -7,6 +7,7 @@ ghost use Rattle.fit.specs.MaxMin.{fitted};
 ghost use Rattle.table.specs.Rows.{bytes_after};
 ghost use Rattle.bench.specs.Held.{rows_of};
 
+use crate::list::MAX_POINTS;
 use fault::Fault;
 use fit::{Entry, fit};
 use loss::Loss;
@@ -20,30 +21,10 @@ fn put_rows<P, H: Holder>(holder: &mut H, entries: &[Entry<P>], levels: &[u16]) 
     ensures room { H.room holder.new ≡ H.room holder.old }
     ensures memory { H.memory holder.new ≡ bytes_after H.extended (H.memory holder.old) [] (rows_of entries.now levels.now) }
 {
-    for i in 0..entries.len() {
-        holder.put(entries[i].count, levels[i])?;
+    for (entry, level) in entries.iter().zip(levels) {
+        holder.put(entry.count, *level)?;
     }
     Ok(())
-}
-
-// The same, with memory for the levels.
-fn lay_through<L: Loss, H: Holder>(
-    loss: &L,
-    entries: &[Entry<L::Point>],
-    top: u16,
-    levels: &mut [u16],
-    holder: &mut H,
-) -> Result<(), Fault>
-    requires { (length levels.old ≡ length entries.now) × ((length entries.now ≤ 1024) × ((length entries.now ≤ H.room holder.old) × (AllByRecursion (λ e. e.count ≤ 16777215) entries.now))) }
-    ensures answer { result ≡ Ok tt }
-    ensures rows { H.listed holder.new ≡ rows_of entries.now (fitted (L.slope loss.now) top (points_of entries.now)) }
-    ensures cheapest { LeastCheapest (L.cost loss.now) top (points_of entries.now) (fitted (L.slope loss.now) top (points_of entries.now)) }
-    ensures room { H.room holder.new ≡ H.room holder.old }
-    ensures memory { H.memory holder.new ≡ bytes_after H.extended (H.cleared (H.memory holder.old) (H.listed holder.old)) [] (rows_of entries.now (fitted (L.slope loss.now) top (points_of entries.now))) }
-{
-    let _ = fit(loss, entries, top, levels);
-    holder.clear();
-    put_rows(holder, entries, levels)
 }
 
 // Fits the points and makes their table the rows of a holder.
@@ -60,7 +41,9 @@ pub(super) fn lay_rows<L: Loss, H: Holder>(
     ensures room { H.room holder.new ≡ H.room holder.old }
     ensures memory { H.memory holder.new ≡ bytes_after H.extended (H.cleared (H.memory holder.old) (H.listed holder.old)) [] (rows_of entries.now (fitted (L.slope loss.now) top (points_of entries.now))) }
 {
-    let mut levels = [0u16; 1024];
-    let n = entries.len();
-    lay_through(loss, entries, top, &mut levels[0..n], holder)
+    let mut memory = [0; MAX_POINTS];
+    let levels = &mut memory[..entries.len()];
+    let _ = fit(loss, entries, top, levels);
+    holder.clear();
+    put_rows(holder, entries, levels)
 }

@@ -7,7 +7,7 @@ use fault::Fault;
 mod serve;
 
 // A call to make.
-#[derive(Clone, Copy)]
+#[derive(Clone, Copy, PartialEq, Eq, Debug)]
 pub enum Request<P, L> {
     Add(u32, P),
     Drop(u32),
@@ -15,7 +15,7 @@ pub enum Request<P, L> {
     Convert(u32),
 }
 
-// What it answered.
+// What it answered. No Result of an Option, since three names say more: an add gives nothing where a conversion gives a level.
 #[derive(Clone, Copy, PartialEq, Eq, Debug)]
 pub enum Answer {
     Done,
@@ -24,21 +24,25 @@ pub enum Answer {
 }
 
 // The answer of a call that gives nothing.
-fn done(res: Result<(), Fault>) -> Answer
-    ensures { result ≡ done_answer res }
-{
-    match res {
-        Ok(()) => Answer::Done,
-        Err(fault) => Answer::Refused(fault),
+impl From<Result<(), Fault>> for Answer {
+    ghost from_gives = { λ res answer. answer ≡ done_answer res };
+
+    fn from(res: Result<(), Fault>) -> Answer {
+        match res {
+            Ok(()) => Answer::Done,
+            Err(fault) => Answer::Refused(fault),
+        }
     }
 }
 
 // The answer of a conversion.
-fn level(res: Result<u16, Fault>) -> Answer
-    ensures { result ≡ level_answer res }
-{
-    match res {
-        Ok(level) => Answer::Level(level),
-        Err(fault) => Answer::Refused(fault),
+impl From<Result<u16, Fault>> for Answer {
+    ghost from_gives = { λ res answer. answer ≡ level_answer res };
+
+    fn from(res: Result<u16, Fault>) -> Answer {
+        match res {
+            Ok(level) => Answer::Level(level),
+            Err(fault) => Answer::Refused(fault),
+        }
     }
 }

@@ -6,7 +6,7 @@ ghost use Rattle.bench.specs.Held.{places_of};
 ghost use Rattle.bench.specs.State.{held_of, memory_of, standing, Kept};
 ghost use Rattle.bench.specs.Told.{Told, ToldAll};
 
-use crate::runs::{Answer, Request, done, level};
+use crate::runs::{Answer, Request};
 use crate::state::Bench;
 use loss::Loss;
 use table::holder::Holder;
@@ -26,10 +26,10 @@ impl<'a, P: Copy> Bench<'a, P> {
         ensures law { (h : History P) → Kept self.old (H.room holder.old) (H.listed holder.old) h → ((e : Event P) × Told L.cost request.now result e × Kept self.new (H.room holder.new) (H.listed holder.new) (e ∷ h)) }
     {
         match request {
-            Request::Add(count, point) => done(self.add(*count, *point)),
-            Request::Drop(count) => done(self.drop(*count)),
-            Request::Lay(loss) => done(self.lay(loss, holder)),
-            Request::Convert(count) => level(self.convert(holder, *count)),
+            Request::Add(count, point) => self.add(*count, *point).into(),
+            Request::Drop(count) => self.drop(*count).into(),
+            Request::Lay(loss) => self.lay(loss, holder).into(),
+            Request::Convert(count) => self.convert(holder, *count).into(),
         }
     }
 
@@ -48,8 +48,9 @@ impl<'a, P: Copy> Bench<'a, P> {
         ensures law { held_of self.old ≡ [] → H.listed holder.old ≡ [] → ((h : History P) × ToldAll L.cost (take result requests.now) (take result answers.new) h × Kept self.new (H.room holder.new) (H.listed holder.new) h) }
     {
         let n = requests.len().min(answers.len());
-        for i in 0..n {
-            answers[i] = self.serve(holder, &requests[i]);
+        // By an index: in a zip with `iter_mut` the proof did not close, since it knows no answer that was written.
+        for (i, request) in requests[..n].iter().enumerate() {
+            answers[i] = self.serve(holder, request);
         }
         n
     }

@@ -1,9 +1,9 @@
 // What a bench does.
-ghost use Rattle.std.specs.Prelude.{◌≡◌, ℕ, true, List, [], ◌∷◌, is_ok};
+ghost use Rattle.std.specs.Prelude.{◌≡◌, ℕ, List, [], ◌∷◌};
 ghost use Rattle.table.specs.Convert.{conversion};
 ghost use Rattle.table.specs.Rows.{once_accepted, bytes_after};
 ghost use Rattle.bench.specs.Held.{places_of, with_point, without, memory_with, memory_without, add_answer, drop_answer, lay_answer, laid_rows};
-ghost use Rattle.bench.specs.Runs.{History, TableOf};
+ghost use Rattle.bench.specs.Runs.{History};
 ghost use Rattle.bench.specs.Runs.Event.{added, dropped, laid, converted};
 ghost use Rattle.bench.specs.State.{held_of, memory_of, Kept};
 
@@ -14,10 +14,7 @@ use fault::{Fault, Question};
 use fit::Entry;
 use loss::Loss;
 use table::convert::convert;
-use table::holder::Holder;
-
-// The greatest count that the detector gives.
-const MAX_COUNT: u32 = 16_777_215;
+use table::holder::{Holder, MAX_COUNT};
 
 impl<'a, P: Copy> Bench<'a, P> {
     // A bench with no points, whatever stands in the memory.
@@ -28,67 +25,9 @@ impl<'a, P: Copy> Bench<'a, P> {
         ensures law { (room : ℕ) → Kept result room [] [] }
     {
         Bench {
-            list: PointList {
-                entries: memory,
-                held: 0,
-            },
+            list: PointList::new(memory),
             top,
         }
-    }
-
-    // Takes a point in at its count.
-    fn take_in(&mut self, count: u32, point: P) -> Result<(), Fault>
-        ensures answer { result ≡ add_answer (places_of (memory_of self.old)) (held_of self.old) count }
-        ensures held { held_of self.new ≡ once_accepted result (with_point (record { count = count; point = point }) (held_of self.old)) (held_of self.old) }
-        ensures memory { memory_of self.new ≡ once_accepted result (memory_with (record { count = count; point = point }) (held_of self.old) (memory_of self.old)) (memory_of self.old) }
-        ensures top { self.new.top ≡ self.old.top }
-        ensures places { places_of (memory_of self.new) ≡ places_of (memory_of self.old) }
-    {
-        if count > MAX_COUNT {
-            return Err(Fault::plain(Question::AddCount));
-        }
-        let Err(at) = self.list.find(count) else {
-            return Err(Fault::plain(Question::AddTwice));
-        };
-        if self.list.held >= self.list.places() {
-            return Err(Fault::plain(Question::AddFull));
-        }
-        self.list.insert(at, Entry { count, point });
-        Ok(())
-    }
-
-    // Lets the point of a count go.
-    fn let_go(&mut self, count: u32) -> Result<(), Fault>
-        ensures answer { result ≡ drop_answer (held_of self.old) count }
-        ensures held { held_of self.new ≡ once_accepted result (without count (held_of self.old)) (held_of self.old) }
-        ensures memory { memory_of self.new ≡ once_accepted result (memory_without count (held_of self.old) (memory_of self.old)) (memory_of self.old) }
-        ensures top { self.new.top ≡ self.old.top }
-        ensures places { places_of (memory_of self.new) ≡ places_of (memory_of self.old) }
-    {
-        let Ok(at) = self.list.find(count) else {
-            return Err(Fault::plain(Question::DropNone));
-        };
-        self.list.remove(at);
-        Ok(())
-    }
-
-    // Fits the points held and makes the table the rows of a holder.
-    fn lay_held<L: Loss<Point = P>, H: Holder>(&self, loss: &L, holder: &mut H) -> Result<(), Fault>
-        ensures answer { result ≡ lay_answer (H.room holder.old) (held_of self.now) }
-        ensures rows { H.listed holder.new ≡ once_accepted result (laid_rows (L.slope loss.now) self.now.top (held_of self.now)) (H.listed holder.old) }
-        ensures table { is_ok result ≡ true → TableOf (L.cost loss.now) self.now.top (held_of self.now) (H.listed holder.new) }
-        ensures room { H.room holder.new ≡ H.room holder.old }
-        ensures memory { H.memory holder.new ≡ once_accepted result (bytes_after H.extended (H.cleared (H.memory holder.old) (H.listed holder.old)) [] (laid_rows (L.slope loss.now) self.now.top (held_of self.now))) (H.memory holder.old) }
-    {
-        let held = self.list.held;
-        if held == 0 {
-            return Err(Fault::plain(Question::LayNone));
-        }
-        if holder.capacity() < held {
-            return Err(Fault::plain(Question::LayRoom));
-        }
-        let top = self.top;
-        lay_rows(loss, &self.list.entries[0..held], top, holder)
     }
 
     // Takes a point in at its count, among those held by rising count.
@@ -100,10 +39,21 @@ impl<'a, P: Copy> Bench<'a, P> {
         ensures places { places_of (memory_of self.new) ≡ places_of (memory_of self.old) }
         ensures law { (room : ℕ) (rs : List (ℕ × ℕ)) (h : History P) → Kept self.old room rs h → Kept self.new room rs (added count point result ∷ h) }
     {
-        self.take_in(count, point)
+        if count > MAX_COUNT {
+            return Err(Fault::plain(Question::AddCount));
+        }
+        let Err(at) = self.list.find(count) else {
+            return Err(Fault::plain(Question::AddTwice));
+        };
+        if self.list.is_full() {
+            return Err(Fault::plain(Question::AddFull));
+        }
+        self.list.insert(at, Entry { count, point });
+        Ok(())
     }
 
     // Lets the point of a count go. Its place can be filled again.
+    #[tactic(auto, using(crate::proofs::Places::taken_at, crate::proofs::Steps::step_drop))]
     pub fn drop(&mut self, count: u32) -> Result<(), Fault>
         ensures answer { result ≡ drop_answer (held_of self.old) count }
         ensures held { held_of self.new ≡ once_accepted result (without count (held_of self.old)) (held_of self.old) }
@@ -112,7 +62,11 @@ impl<'a, P: Copy> Bench<'a, P> {
         ensures places { places_of (memory_of self.new) ≡ places_of (memory_of self.old) }
         ensures law { (room : ℕ) (rs : List (ℕ × ℕ)) (h : History P) → Kept self.old room rs h → Kept self.new room rs (dropped count result ∷ h) }
     {
-        self.let_go(count)
+        let Ok(at) = self.list.find(count) else {
+            return Err(Fault::plain(Question::DropNone));
+        };
+        self.list.remove(at);
+        Ok(())
     }
 
     // Lays the table of the points held in a holder: a row for each, by rising count, in the place of the rows there.
@@ -123,10 +77,18 @@ impl<'a, P: Copy> Bench<'a, P> {
         ensures memory { H.memory holder.new ≡ once_accepted result (bytes_after H.extended (H.cleared (H.memory holder.old) (H.listed holder.old)) [] (laid_rows (L.slope loss.now) self.now.top (held_of self.now))) (H.memory holder.old) }
         ensures law { (h : History P) → Kept self.now (H.room holder.old) (H.listed holder.old) h → Kept self.now (H.room holder.new) (H.listed holder.new) (laid (L.cost loss.now) result (H.listed holder.new) ∷ h) }
     {
-        self.lay_held(loss, holder)
+        let points = self.list.points();
+        if points.is_empty() {
+            return Err(Fault::plain(Question::LayNone));
+        }
+        if holder.capacity() < points.len() {
+            return Err(Fault::plain(Question::LayRoom));
+        }
+        lay_rows(loss, points, self.top, holder)
     }
 
     // The level of a count by the rows of a holder.
+    #[tactic(auto, using(crate::proofs::Steps::step_convert))]
     pub fn convert<H: Holder>(&self, holder: &H, count: u32) -> Result<u16, Fault>
         ensures answer { result ≡ conversion (H.listed holder.now) count }
         ensures law { (h : History P) → Kept self.now (H.room holder.now) (H.listed holder.now) h → Kept self.now (H.room holder.now) (H.listed holder.now) (converted count result ∷ h) }

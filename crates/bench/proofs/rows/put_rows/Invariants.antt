@@ -1,9 +1,15 @@
-use Rattle.std.proofs.Common.{◌≡◌, [], take}
+use Rattle.std.proofs.Common.{◌≡◌, [], length, take}
 use Rattle.table.specs.Rows.{bytes_after}
 use Rattle.bench.specs.Held.{rows_of}
 use Rattle.bench.proofs.rows.put_rows.Given as goal
 
 -- the rows so far
-abbrev pub invariant-loop-i : goal.invariant-loop-i
-invariant-loop-i g l =
-    let done = rows_of (take l.i l.entries) (take l.i l.levels) in (g.H.Holder.listed l.holder ≡ done) × (g.H.Holder.room l.holder ≡ g.H.Holder.room l.initial.holder) × (g.H.Holder.memory l.holder ≡ bytes_after g.H.Holder.extended (g.H.Holder.memory l.initial.holder) [] done)
+abbrev pub invariant-loop-entry : goal.invariant-loop-entry
+invariant-loop-entry g l =
+    let h = g.H.Holder in
+    let done = take (length l.yielded) (rows_of l.entries l.levels) in
+    record {
+      rows : h.listed l.holder ≡ done;
+      room : h.room l.holder ≡ h.room l.initial.holder;
+      memory : h.memory l.holder ≡ bytes_after h.extended (h.memory l.initial.holder) [] done;
+    }

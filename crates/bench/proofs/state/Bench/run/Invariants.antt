@@ -12,4 +12,13 @@ invariant-loop-i g l =
     let w : Writing = record { clears = h.cleared; extends = h.extended } in
     let b = l.initial.self in
     let s = standing b (h.listed l.initial.holder) (h.memory l.initial.holder) in
-    (l.answers ≡ answered_all g.L.Loss.slope b.top (h.room l.initial.holder) w s (take l.i l.requests) ++ drop l.i l.initial.answers) × (standing l.self (h.listed l.holder) (h.memory l.holder) ≡ served_all g.L.Loss.slope b.top (h.room l.initial.holder) w s (take l.i l.requests)) × (l.self.top ≡ b.top) × (h.room l.holder ≡ h.room l.initial.holder) × (held_of b ≡ [] → h.listed l.initial.holder ≡ [] → (k : History g.row.P.Denot) × ToldAll g.L.Loss.cost (take l.i l.requests) (take l.i l.answers) k × Kept l.self (h.room l.holder) (h.listed l.holder) k)
+    let step = g.L.Loss.slope in
+    let room = h.room l.initial.holder in
+    let asked = take l.i l.requests in
+    record {
+      answers : l.answers ≡ answered_all step b.top room w s asked ++ drop l.i l.initial.answers;
+      after : standing l.self (h.listed l.holder) (h.memory l.holder) ≡ served_all step b.top room w s asked;
+      top : l.self.top ≡ b.top;
+      room : h.room l.holder ≡ room;
+      law : held_of b ≡ [] → h.listed l.initial.holder ≡ [] → (k : History g.row.P.Denot) × ToldAll g.L.Loss.cost asked (take l.i l.answers) k × Kept l.self (h.room l.holder) (h.listed l.holder) k;
+    }
