@@ -1,5 +1,3 @@
 pub mod Cuts
 pub mod Heads
-pub mod Numbers
-pub mod Ranges
 pub mod Sorts

@@ -1,20 +1,12 @@
 -- Fields and their bytes. Assumes nothing.
-use Rattle.std.proofs.Common.{◌≡◌, ℕ, suc, ◌≤◌, Bool, true, false, cond, ◌&&◌, eqb, leb, List, [], ◌∷◌, length, get_or, is_some, Some, None, Option, unwrap_or, sym, refl, ap, ◌∙◌, ⊎_elim, arith, Bor}
+use Rattle.std.proofs.Common.{◌≡◌, ℕ, ◌≤◌, Bool, true, false, cond, List, [], ◌∷◌, get_or, is_some, Some, None, Option, unwrap_or, sym, refl, ap, ◌∙◌, arith, Bor}
 use Rattle.std.specs.List.{slice_get}
 use Rattle.std.specs.Str.{all_ascii_digits}
-use Rattle.std.proofs.lemmas.Bool.{both_ways, ne_eqb, and_parts, or_cases, leb-true, cond-true, cond-false, false≢true}
+use Rattle.std.proofs.lemmas.Bool.{cond-true, cond-false, false≢true}
 use Rattle.lines.specs.declared.fields.Field.{Field}
 use Rattle.lines.specs.declared.fields.Field.TheVariants.{Digits, Letter, Other}
 use Rattle.lines.specs.Fields.{is_letter, one_letter, field_of, field_bytes, field_letter, only, RightCase}
 use Rattle.lines.specs.Pieces.{placed}
-
-by_tests : (s t : Bool) (p : Bor (List ℕ)) → field_bytes (cond s (Digits p) (cond t (Letter p) (Other p))) ≡ p.now
-by_tests true t p = refl
-by_tests false true p = refl
-by_tests false false p = refl
-
-pub bytes_of_field : (p : Bor (List ℕ)) → field_bytes (field_of p) ≡ p.now
-bytes_of_field p = by_tests (all_ascii_digits p.now) (one_letter p.now) p
 
 by_cases : (s t : Bool) (p : Bor (List ℕ)) → all_ascii_digits p.now ≡ s → one_letter p.now ≡ t → RightCase (cond s (Digits p) (cond t (Letter p) (Other p)))
 by_cases true t p d l = d
@@ -26,24 +18,12 @@ right_case p = by_cases (all_ascii_digits p.now) (one_letter p.now) p refl refl
 
 -- a letter is no digit
 letter_high : (b : ℕ) → is_letter b ≡ true → 58 ≤ b
-letter_high b h =
-    ⊎_elim (λ (up : (leb 65 b && leb b 90) ≡ true). omega (arith, leb-true 65 b (and_parts (leb 65 b) (leb b 90) up).0))
-    (λ (low : (leb 97 b && leb b 122) ≡ true). omega (arith, leb-true 97 b (and_parts (leb 97 b) (leb b 122) low).0))
-    (or_cases (leb 65 b && leb b 90) (leb 97 b && leb b 122) h)
+letter_high b h = grind arith
 
 letter_alone : (bs : List ℕ) → one_letter bs ≡ true → (only bs ≡ Some (get_or bs 0 0)) × (all_ascii_digits bs ≡ true → ⊥)
 letter_alone [] h = absurd (false≢true h)
-letter_alone (b ∷ []) h = (
-  refl,
-  λ d.
-      omega (
-        arith,
-        letter_high b (and_parts (eqb 1 1) (is_letter b) h).1,
-        leb-true b 57 (and_parts (leb 48 b) (leb b 57) (and_parts (leb 48 b && leb b 57) true d).0).1,
-      ),
-)
-letter_alone (b ∷ c ∷ bs) h =
-    absurd (both_ways (eqb (suc (suc (length bs))) 1) (ne_eqb (suc (suc (length bs))) 1 (λ q. omega (arith, q))) (and_parts (eqb (suc (suc (length bs))) 1) (is_letter b) h).0)
+letter_alone (b ∷ []) h = (refl, λ d. grind (arith, letter_high b))
+letter_alone (b ∷ c ∷ bs) h = grind arith
 
 by_letter : (t : Bool) (bs : List ℕ) → one_letter bs ≡ t → all_ascii_digits bs ≡ true → None ≡ cond t (Some (get_or bs 0 0)) None
 by_letter true bs e d = absurd ((letter_alone bs e).1 d)
@@ -55,10 +35,6 @@ letter_is (Letter p) d = (letter_alone p.now d.1).0 ∙ sym (cond-true (one_lett
 letter_is (Other p) d = sym (cond-false (one_letter p.now) _ _ d.1)
 
 -- the first field with its column, and the first field
-pub first_none : (ps : List (List ℕ)) → None ≡ slice_get (placed 1 ps) 0 → get_or ps 0 [] ≡ []
-first_none [] e = refl
-first_none (p ∷ ps) e = absurd (false≢true (ap is_some e))
-
 pub first_some : (ps : List (List ℕ)) (f : ℕ × List ℕ) → Some f ≡ slice_get (placed 1 ps) 0 → get_or ps 0 [] ≡ f.1
 first_some [] f e = absurd (false≢true (sym (ap is_some e)))
 first_some (p ∷ ps) f e = sym (ap (λ (o : Option (ℕ × List ℕ)). (unwrap_or {T = ℕ × List ℕ} o (0, [])).1) e)

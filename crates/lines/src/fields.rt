@@ -4,7 +4,7 @@ ghost use Rattle.std.specs.Str.{all_ascii_digits};
 ghost use Rattle.lines.specs.Fields.{field_of, field_letter};
 
 // A part of a line, still in the reader's input.
-#[derive(Clone, Copy)]
+#[derive(Clone, Copy, PartialEq, Eq, Debug)]
 pub enum Field<'a> {
     Digits(&'a [u8]),
     Letter(&'a [u8]),
@@ -12,7 +12,7 @@ pub enum Field<'a> {
 }
 
 // A field with the column, from 1, at which it begins.
-#[derive(Clone, Copy)]
+#[derive(Clone, Copy, PartialEq, Eq, Debug)]
 pub struct Placed<'a> {
     pub field: Field<'a>,
     pub column: u32,
@@ -21,28 +21,23 @@ pub struct Placed<'a> {
 fn all_digits(part: &[u8]) -> bool
     ensures { result ≡ all_ascii_digits part.now }
 {
-    for byte in part {
-        if !byte.is_ascii_digit() {
-            return false;
-        }
-    }
-    true
+    part.iter().all(u8::is_ascii_digit)
 }
 
-impl<'a> Field<'a> {
-    // What kind of field a part of a line is.
-    pub fn of(part: &'a [u8]) -> Field<'a>
-        ensures { result ≡ field_of part.entry }
-    {
-        if all_digits(part) {
-            return Field::Digits(part);
-        }
+// What kind of field a part of a line is.
+impl<'a> From<&'a [u8]> for Field<'a> {
+    ghost from_gives = { λ part field. field ≡ field_of part };
+
+    fn from(part: &'a [u8]) -> Field<'a> {
         match part {
+            _ if all_digits(part) => Field::Digits(part),
             [letter] if letter.is_ascii_alphabetic() => Field::Letter(part),
             _ => Field::Other(part),
         }
     }
+}
 
+impl<'a> Field<'a> {
     // The letter of a field that is one.
     pub fn letter(self) -> Option<u8>
         ensures { result ≡ field_letter self.entry }

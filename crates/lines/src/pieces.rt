@@ -1,18 +1,7 @@
 // A text taken apart at a byte.
+ghost use Rattle.std.specs.Iterator.{YieldsFirstRef, item_count};
 ghost use Rattle.std.specs.Prelude.{◌≡◌, suc, ◌-◌, ◌<◌, ◌≤◌, ◌∷◌, length, take, drop};
 ghost use Rattle.lines.specs.Pieces.{before, pieces};
-
-// How many bytes stand before the first byte of this value, or in all.
-fn find(text: &[u8], byte: u8) -> usize
-    ensures value { result ≡ before byte text.now }
-    ensures within { result ≤ length text.now }
-{
-    let mut at = 0;
-    while at < text.len() && text[at] != byte {
-        at += 1;
-    }
-    at
-}
 
 // The first piece of a text, and what stands behind the byte that ends it.
 pub fn split_first(text: &[u8], end: u8) -> (&[u8], &[u8])
@@ -21,9 +10,40 @@ pub fn split_first(text: &[u8], end: u8) -> (&[u8], &[u8])
     ensures pieces { 0 < length text.now → pieces end text.now ≡ result.0.now ∷ pieces end result.1.now }
     ensures lengths { (length result.0.now ≤ length text.now) × (length result.1.now ≡ length text.now - suc (length result.0.now)) }
 {
-    let at = find(text, end);
-    if at == text.len() {
-        return (text, &text[at..]);
+    match text.iter().position(|byte| *byte == end) {
+        Some(at) => (&text[..at], &text[at + 1..]),
+        None => (text, &[]),
     }
-    (&text[..at], &text[at + 1..])
+}
+
+// The pieces of a text, one after the other.
+#[derive(Clone, Drop)]
+pub struct Pieces<'a> {
+    rest: &'a [u8],
+    end: u8,
+}
+
+impl<'a> Pieces<'a> {
+    pub fn new(text: &'a [u8], end: u8) -> Pieces<'a>
+        ensures { pieces result.end result.rest.now ≡ pieces end text.now }
+    {
+        Pieces { rest: text, end }
+    }
+}
+
+impl<'a> Iterator for Pieces<'a> {
+    type Item = &'a [u8];
+
+    ghost next_gives = { YieldsFirstRef (λ s. pieces s.end s.rest.now) };
+
+    ghost remaining = { item_count (λ s. pieces s.end s.rest.now) };
+
+    fn next(&mut self) -> Option<&'a [u8]> {
+        if self.rest.is_empty() {
+            return None;
+        }
+        let (piece, rest) = split_first(self.rest, self.end);
+        self.rest = rest;
+        Some(piece)
+    }
 }

@@ -5,13 +5,7 @@ ghost use Rattle.lines.specs.Points.{reading_told, band_told};
 
 use crate::line::Line;
 use fault::{Fault, Question};
-use loss::{Band, Reading};
-
-// The greatest level on a line.
-pub const TOP_LEVEL: u32 = 65_535;
-
-// The greatest weight on a line.
-const TOP_WEIGHT: u32 = 1_000;
+use loss::{Band, Reading, TOP_LEVEL, TOP_WEIGHT};
 
 // A kind of point that a line can give, behind its letter and its count.
 pub trait LinePoint: Copy {
@@ -26,8 +20,8 @@ impl LinePoint for Reading {
     ghost told = { reading_told };
 
     fn read(line: &Line<'_>) -> Result<Reading, Fault> {
-        let level = line.number(2, 0, TOP_LEVEL)?;
-        let weight = line.number(3, 1, TOP_WEIGHT)?;
+        let level = line.number(2, 0..=TOP_LEVEL)?;
+        let weight = line.number(3, 1..=TOP_WEIGHT)?;
         Reading::new(level, weight)
     }
 }
@@ -36,9 +30,9 @@ impl LinePoint for Band {
     ghost told = { band_told };
 
     fn read(line: &Line<'_>) -> Result<Band, Fault> {
-        let low = line.number(2, 0, TOP_LEVEL)?;
-        let high = line.number(3, 0, TOP_LEVEL)?;
-        let weight = line.number(4, 1, TOP_WEIGHT)?;
+        let low = line.number(2, 0..=TOP_LEVEL)?;
+        let high = line.number(3, 0..=TOP_LEVEL)?;
+        let weight = line.number(4, 1..=TOP_WEIGHT)?;
         if low > high {
             return Err(line.fault(Question::BandEnds, line.column(2)));
         }

@@ -3,7 +3,7 @@ ghost use Rattle.std.specs.Prelude.{◌≡◌};
 ghost use Rattle.lines.specs.Letters.{verb_of, verb_fields, loss_of};
 
 // The letter of a line behind the first.
-#[derive(Clone, Copy)]
+#[derive(Clone, Copy, PartialEq, Eq, Debug)]
 pub enum Verb {
     Point,
     Drop,
@@ -12,6 +12,7 @@ pub enum Verb {
 }
 
 impl Verb {
+    // No TryFrom, whose error would say nothing: a letter is known or not.
     pub fn of(letter: u8) -> Option<Verb>
         ensures { result ≡ verb_of letter }
     {
@@ -38,7 +39,7 @@ impl Verb {
 }
 
 // The letter of the first line.
-#[derive(Clone, Copy)]
+#[derive(Clone, Copy, PartialEq, Eq, Debug)]
 pub enum LossName {
     Squares,
     Absolute,
@@ -46,6 +47,7 @@ pub enum LossName {
 }
 
 impl LossName {
+    // No TryFrom, as above.
     pub fn of(letter: u8) -> Option<LossName>
         ensures { result ≡ loss_of letter }
     {

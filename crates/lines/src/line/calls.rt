@@ -1,19 +1,23 @@
 // What a line says.
-ghost use Rattle.std.specs.Prelude.{◌≡◌, ◌≤◌, true, length, take, IfSome};
+ghost use Rattle.std.specs.Prelude.{◌≡◌, ℕ, ◌<◌, ◌≤◌, true, length, take, Option, IfSome};
 ghost use Rattle.std.specs.Option.{option_map};
 ghost use Rattle.std.specs.Str.Parse.{digits_value};
 ghost use Rattle.std.specs.List.{slice_get};
+ghost use Rattle.std.specs.Range.{range_inclusive_start, range_inclusive_end};
 ghost use Rattle.std.specs.Str.{all_ascii_digits};
 ghost use Rattle.fault.specs.Numbers.{at_place};
 ghost use Rattle.lines.specs.Fields.{number_at, column_from, RightCase};
 ghost use Rattle.lines.specs.Forms.{formed, line_parts, placed_parts};
 ghost use Rattle.lines.specs.Letters.{first_letter};
 ghost use Rattle.lines.specs.Pieces.{fields_of, fields_at, well_spaced};
+ghost use Rattle.lines.specs.Requests.{begun};
 
 use crate::fields::{Field, Placed};
 use crate::line::Line;
-use crate::pieces::split_first;
+use crate::line::parts::Parts;
+use crate::pieces::Pieces;
 use fault::{Fault, Question};
+use std::ops::RangeInclusive;
 
 // The most bytes of a line.
 const MAX_BYTES: usize = 64;
@@ -61,11 +65,7 @@ impl<'a> Line<'a> {
     pub fn fault(&self, question: Question, column: u32) -> Fault
         ensures { result ≡ at_place self.now.number column question }
     {
-        Fault {
-            question,
-            line: self.number,
-            column,
-        }
+        Fault::at(self.number, column, question)
     }
 
     // Is its form right: not too long, one space between fields, none at the ends?
@@ -85,14 +85,7 @@ impl<'a> Line<'a> {
     pub fn count_fields(&self) -> usize
         ensures { result ≡ length (fields_of self.now.bytes.now) }
     {
-        let mut rest = self.bytes;
-        let mut count = 0;
-        while !rest.is_empty() {
-            let (_, behind) = split_first(rest, b' ');
-            rest = behind;
-            count += 1;
-        }
-        count
+        Pieces::new(self.bytes, b' ').count()
     }
 
     // Field i, counted from 0.
@@ -100,22 +93,9 @@ impl<'a> Line<'a> {
         ensures value { option_map placed_parts result ≡ slice_get (fields_at self.now.bytes.now) i }
         ensures sort { IfSome result (λ p. RightCase p.field) }
     {
-        let mut rest = self.bytes;
-        let mut column = 1;
-        for _ in 0..i {
-            if rest.is_empty() {
-                return None;
-            }
-            let (part, behind) = split_first(rest, b' ');
-            column += part.len() as u32 + 1;
-            rest = behind;
-        }
-        if rest.is_empty() {
-            return None;
-        }
-        let (part, _) = split_first(rest, b' ');
+        let (column, part) = Parts::new(self.bytes).nth(i)?;
         Some(Placed {
-            field: Field::of(part),
+            field: Field::from(part),
             column,
         })
     }
@@ -124,10 +104,7 @@ impl<'a> Line<'a> {
     pub fn column(&self, i: usize) -> u32
         ensures { result ≡ column_from (slice_get (fields_at self.now.bytes.now) i) }
     {
-        match self.field(i) {
-            Some(placed) => placed.column,
-            None => 1,
-        }
+        self.field(i).map_or(1, |placed| placed.column)
     }
 
     // The letter that it begins with, if its first field is one.
@@ -137,13 +114,11 @@ impl<'a> Line<'a> {
         self.field(0)?.field.letter()
     }
 
-    // Field i as a number from low to high.
-    pub fn number(&self, i: usize, low: u32, high: u32) -> Result<u32, Fault>
-        ensures { result ≡ number_at self.now.number low high self.now.bytes.now i }
+    // Field i as a number in a range.
+    pub fn number(&self, i: usize, range: RangeInclusive<u32>) -> Result<u32, Fault>
+        ensures { result ≡ number_at self.now.number (range_inclusive_start range) (range_inclusive_end range) self.now.bytes.now i }
     {
-        let Some(placed) = self.field(i) else {
-            return Err(self.fault(Question::LineFields, 1));
-        };
+        let placed = self.field(i).ok_or(self.fault(Question::LineFields, 1))?;
         let Field::Digits(digits) = placed.field else {
             return Err(self.fault(Question::NumberDigits, placed.column));
         };
@@ -151,9 +126,31 @@ impl<'a> Line<'a> {
             return Err(self.fault(Question::NumberForm, placed.column));
         }
         let n = value_of(digits);
+        let (low, high) = range.into_inner();
         if n < u64::from(low) || n > u64::from(high) {
             return Err(self.fault(Question::PointRange, placed.column));
         }
         Ok(n as u32)
+    }
+
+    // What it begins with, where its form is right: a known letter with the right number of fields behind it.
+    pub(crate) fn begin<X: Copy, K: FnOnce(u8) -> Option<X>, F: FnOnce(X) -> usize>(
+        &self,
+        known: K,
+        fields: F,
+    ) -> Result<X, Fault>
+        requires known { K.IsAlwaysCallable known }
+        requires fields { F.IsAlwaysCallable fields }
+        ensures { (k : ℕ → Option X) (n : X → ℕ) → ((b : ℕ) (x : Option X) → b < 256 → K.post known b x → x ≡ k b) → ((x : X) (m : ℕ) → F.post fields x m → m ≡ n x) → result ≡ begun k n self.now.number self.now.bytes.now }
+    {
+        self.check_form()?;
+        let word = self
+            .letter()
+            .and_then(known)
+            .ok_or(self.fault(Question::LineLetter, 1))?;
+        if self.count_fields() != fields(word) {
+            return Err(self.fault(Question::LineFields, 1));
+        }
+        Ok(word)
     }
 }

@@ -1,13 +1,15 @@
-use Rattle.std.proofs.Common.{arith, rules}
+use Rattle.std.proofs.Common.{◌≡◌, ℕ, ◌&&◌, List, [], ◌∷◌, ap, refl, ◌∙◌, rules, tests}
+use Rattle.std.specs.Char.{is_ascii_digit}
+use Rattle.std.specs.List.{list_all}
 use Rattle.std.specs.Str.{all_ascii_digits}
-use Rattle.std.proofs.lemmas.List.{at_drop_more, at_drop_all}
+use Rattle.std.proofs.lemmas.Iterator.{YieldsList-from_slice}
+use Rattle.std.proofs.lemmas.Iterator.Search.{all_from_yields_List}
 use Rattle.lines.proofs.fields.all_digits.Goals as goal
 
-pub returns-then-not-is_ascii_digit : goal.returns-then-not-is_ascii_digit
-returns-then-not-is_ascii_digit c = let s = at_drop_more all_ascii_digits c.args.part.now c.loop-byte.byte-index 0 (omega arith) in search rules
-
-pub loop-byte-preserved : goal.loop-byte-preserved
-loop-byte-preserved c = let s = at_drop_more all_ascii_digits c.args.part.now c.loop-byte.byte-index 0 (omega arith) in search rules
+all_are : (bs : List ℕ) → list_all is_ascii_digit bs ≡ all_ascii_digits bs
+all_are [] = refl
+all_are (b ∷ bs) = ap (λ t. is_ascii_digit b && t) (all_are bs)
 
 pub returns : goal.returns
-returns c = let s = at_drop_all all_ascii_digits c.args.part.now c.loop-byte.byte-index (omega arith) in search rules
+returns c =
+    all_from_yields_List is_ascii_digit _ _ _ c.all.ensures.ran (YieldsList-from_slice c.args.part.now cc) (λ x b q k. search (rules, tests)) ∙ all_are c.args.part.now

@@ -1,12 +1,17 @@
-use Rattle.std.proofs.Common.{ap, ◌∙◌}
+use Rattle.std.proofs.Common.{rules}
 use Rattle.lines.specs.Letters.{verb_of, verb_fields}
-use Rattle.lines.specs.Requests.{verb_request, line_request}
-use Rattle.lines.proofs.Heads.{front_alike}
+use Rattle.lines.specs.Requests.{verb_request}
+use Rattle.lines.proofs.Heads.{front_told}
 use Rattle.lines.proofs.requests.read_request.Goals as goal
+
+pub returns-in_err-verb : goal.returns-in_err-verb
+returns-in_err-verb g c =
+    let f = verb_request g.P.LinePoint.told g.L.Loss.FIELDS c.args.loss.now in
+    let front = front_told verb_of (verb_fields g.L.Loss.FIELDS) c.args.number f c.args.bytes.now c.new-line.result c.verb.result c.new-line.ensures c.verb.ensures in
+    search (rules, front)
 
 pub returns : goal.returns
 returns g c =
-    let s = c.args.script.now in
-    c.request.ensures
-    ∙ (ap (λ q. line_request g.P.LinePoint.told s.fields s.loss q.0 q.1) c.new.ensures
-    ∙ front_alike verb_of (verb_fields s.fields) c.args.number (verb_request g.P.LinePoint.told s.fields s.loss c.args.number) c.args.bytes.now)
+    let f = verb_request g.P.LinePoint.told g.L.Loss.FIELDS c.args.loss.now in
+    let front = front_told verb_of (verb_fields g.L.Loss.FIELDS) c.args.number f c.args.bytes.now c.new-line.result c.verb.result c.new-line.ensures c.verb.ensures in
+    search (rules, front)

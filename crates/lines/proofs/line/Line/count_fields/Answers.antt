@@ -1,21 +1,9 @@
-use Rattle.std.proofs.Common.{◌≡◌, length, ap, arith}
+use Rattle.std.proofs.Common.{length, ap, inl, arith}
 use Rattle.lines.specs.Pieces.{fields_of}
-use Rattle.lines.proofs.Cuts.{none_left, some_left}
+use Rattle.lines.proofs.Cuts.{no_more_pieces, pieces_take}
 use Rattle.lines.proofs.line.Line.count_fields.Goals as goal
 
-pub loop-rest-smaller : goal.loop-rest-smaller
-loop-rest-smaller c =
-    let some = some_left c.loop-rest.rest.now c.loop-rest-test.ensures in
-    omega (arith, some, c.split_first.ensures.lengths.1)
-
-pub loop-rest-preserved : goal.loop-rest-preserved
-loop-rest-preserved c =
-    let some = some_left c.loop-rest.rest.now c.loop-rest-test.ensures in (
-      omega (arith, ap length (c.split_first.ensures.pieces some), c.loop-rest.invariant.0),
-      omega (arith, some, c.split_first.ensures.lengths.1, c.loop-rest.invariant.1),
-    )
-
-pub returns : goal.returns
-returns c =
-    let none : length (fields_of c.loop-rest.rest.now) ≡ 0 = ap (λ bs. length (fields_of bs)) (none_left c.loop-rest.rest.now c.loop-rest-test.ensures) in
-    omega (arith, none, c.loop-rest.invariant.0)
+pub count-requires-clause-fits : goal.count-requires-clause-fits
+count-requires-clause-fits c =
+    let bs = c.args.self.now.bytes.now in
+    inl (omega (arith, ap length c.new.ensures, no_more_pieces (fields_of bs), pieces_take 32 bs, c.args.self.now.short))

@@ -2,13 +2,8 @@ use Rattle.std.proofs.Common.{ℕ, cond, List, get_or, Some, None, sym, ap, ◌�
 use Rattle.lines.specs.Fields.{one_letter}
 use Rattle.lines.specs.Forms.{placed_parts}
 use Rattle.lines.specs.Pieces.{fields_of}
-use Rattle.lines.proofs.Sorts.{letter_is, first_none, first_some}
+use Rattle.lines.proofs.Sorts.{letter_is, first_some}
 use Rattle.lines.proofs.line.Line.letter.Goals as goal
-
-pub returns-in_err-field : goal.returns-in_err-field
-returns-in_err-field c =
-    c.from_residual.ensures
-    ∙ ap (λ (f : List ℕ). cond (one_letter f) (Some (get_or f 0 0)) None) (sym (first_none (fields_of c.args.self.now.bytes.now) c.in_err-field.ensures.value))
 
 pub returns : goal.returns
 returns c =
