@@ -1,5 +1,5 @@
 -- A session from a new bench and a new table. Assumes nothing.
-use Rattle.std.proofs.Common.{◌≡◌, ℕ, List, [], ◌++◌, ℤ, IfOk, Result, ap, ◌∙◌, subst, subst₂}
+use Rattle.std.proofs.Common.{◌≡◌, ℕ, List, [], ◌++◌, ℤ, Result, ap, ◌∙◌, subst, subst₂}
 use Rattle.std.specs.List.{flat_map}
 use Rattle.std.proofs.lemmas.List.{append_assoc}
 use Rattle.fault.specs.declared.Fault.{Fault}
@@ -33,15 +33,3 @@ module _ {P L : Type 0} (told : ℕ → List ℕ → Result P Fault) (cost step 
         (subst₂ (λ t r. Keeps 1024 t r h end.points end.rows) same-u same-q
         (subst (λ n. Keeps n u q h end.points end.rows) same-places kept)))),
   )
-
--- the same session by equal numbers of fields, entries and bytes
-module _ {P L X E : Type 0} (told : ℕ → List ℕ → Result P Fault) (cost step : L → P → ℕ → ℤ) (loss : L) (top : ℕ) (ls : List (List ℕ)) (fields more : ℕ) (es fs : List (Entry P)) (bs cs : List ℕ) (r : Result X E) (same-fields : fields ≡ more) (same_entries : es ≡ fs) (same_bytes : bs ≡ cs) where
-  pub session_moved : (old new : List ℕ) → IfOk r (λ _. new ≡ old ++ session_text told cost step fields loss top es bs ls) → IfOk r (λ _. new ≡ old ++ session_text told cost step more loss top fs cs ls)
-  session_moved old new h =
-      subst (λ x. IfOk r (λ _. new ≡ old ++ session_text told cost step more loss top fs x ls)) same_bytes
-      (subst₂ (λ n x. IfOk r (λ _. new ≡ old ++ session_text told cost step n loss top x bs ls)) same-fields same_entries h)
-
-  pub keeps_moved : IfOk r (λ _. SessionKeeps told cost step fields loss top es bs ls) → IfOk r (λ _. SessionKeeps told cost step more loss top fs cs ls)
-  keeps_moved h =
-      subst (λ x. IfOk r (λ _. SessionKeeps told cost step more loss top fs x ls)) same_bytes
-      (subst₂ (λ n x. IfOk r (λ _. SessionKeeps told cost step n loss top x bs ls)) same-fields same_entries h)

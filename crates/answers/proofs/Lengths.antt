@@ -1,7 +1,6 @@
 -- How long the words of an answer are. Assumes nothing.
-use Rattle.std.proofs.Common.{◌≡◌, ℕ, ◌^◌, ◌<◌, ◌≤◌, List, ◌++◌, length, decimal, ap, ◌∙◌, arith, lit<}
+use Rattle.std.proofs.Common.{◌≡◌, ℕ, ◌^◌, ◌<◌, ◌≤◌, length, decimal, arith, lit<}
 use Rattle.std.proofs.lemmas.Fmt.{length-decimal-le}
-use Rattle.std.proofs.lemmas.List.{append_assoc}
 use Rattle.fault.specs.declared.Question.{Question}
 use Rattle.fault.specs.declared.Question.TheVariants.{LineLength, LineSpacing, LineLetter, LineFields, NumberDigits, NumberForm, PointRange, BandEnds, AnswerRoom, InputLength, AddCount, AddTwice, AddFull, DropNone, LayNone, LayRoom, PutCount, PutRoom, OpenLength, OpenSums, OpenLayout, OpenOrder, ConvertEmpty, ConvertBelow, ConvertAbove, ConvertFalls}
 use Rattle.fault.specs.Numbers.{number_of, layer_of}
@@ -46,10 +45,3 @@ layer_digit n q e = length-decimal-le 1 n (omega arith) (omega (arith, small q))
 
 pub number_digits : (n : ℕ) (q : Question) → n ≡ number_of q → length (decimal n) ≤ 2
 number_digits n q e = length-decimal-le 2 n (omega arith) (omega (arith, small q)) (omega (arith, small q))
-
--- four pieces, one behind another
-pub four_pieces : (x a b c d t u v w : List ℕ) → t ≡ x ++ a → u ≡ t ++ b → v ≡ u ++ c → w ≡ v ++ d → w ≡ x ++ (a ++ (b ++ (c ++ d)))
-four_pieces x a b c d t u v w e1 e2 e3 e4 =
-    e4
-    ∙ (ap (λ (l : List ℕ). l ++ d) (e3 ∙ ap (λ (l : List ℕ). l ++ c) (e2 ∙ ap (λ (l : List ℕ). l ++ b) e1))
-    ∙ simp append_assoc)

@@ -9,12 +9,12 @@ ghost use Rattle.lines.specs.Headings.{heading_told};
 ghost use Rattle.answers.specs.Replies.{answer_text};
 ghost use Rattle.lines.specs.Requests.{line_request};
 
-use crate::reply::{ANSWER_BYTES, Reply};
+use crate::reply::{ANSWER_BYTES, answer_text};
 use bench::{Answer, Bench, Request};
 use fault::{Fault, Question};
 use lines::headings::{Heading, read_heading};
 use lines::points::LinePoint;
-use lines::requests::{Script, read_request};
+use lines::requests::read_request;
 use loss::Loss;
 use table::holder::Holder;
 
@@ -33,33 +33,8 @@ fn answer_at(answer: Answer, line: u32, column: u32) -> Answer
     ensures { result ≡ answer_at line column answer }
 {
     match answer {
-        Answer::Refused(Fault { question, .. }) => Answer::Refused(Fault {
-            question,
-            line,
-            column,
-        }),
+        Answer::Refused(fault) => Answer::Refused(Fault::at(line, column, fault.question)),
         other => other,
-    }
-}
-
-// Carries a line out.
-fn obey<P: LinePoint, L: Loss<Point = P> + Copy, H: Holder>(
-    bench: &mut Bench<'_, P>,
-    holder: &mut H,
-    script: &Script<L>,
-    bytes: &[u8],
-    number: u32,
-) -> Answer
-    ensures answer { result ≡ line_answer P.told L.slope script.now.fields script.now.loss bench.old.top (H.room holder.old) (record { clears = H.cleared; extends = H.extended }) (standing bench.old (H.listed holder.old) (H.memory holder.old)) number bytes.now }
-    ensures after { standing bench.new (H.listed holder.new) (H.memory holder.new) ≡ line_after P.told L.slope script.now.fields script.now.loss bench.old.top (H.room holder.old) (record { clears = H.cleared; extends = H.extended }) (standing bench.old (H.listed holder.old) (H.memory holder.old)) number bytes.now }
-    ensures top { bench.new.top ≡ bench.old.top }
-    ensures room { H.room holder.new ≡ H.room holder.old }
-    ensures places { places_of (memory_of bench.new) ≡ places_of (memory_of bench.old) }
-    ensures law { (h : History P) → Kept bench.old (H.room holder.old) (H.listed holder.old) h → ((after : History P) × Entered L.cost (line_request P.told script.now.fields script.now.loss number bytes.now) (answered L.slope bench.old.top (H.room holder.old) (record { clears = H.cleared; extends = H.extended }) (standing bench.old (H.listed holder.old) (H.memory holder.old))) h after × Kept bench.new (H.room holder.new) (H.listed holder.new) after) }
-{
-    match read_request(script, bytes, number) {
-        Ok(request) => answer_at(bench.serve(holder, &request), number, column(&request)),
-        Err(fault) => Answer::Refused(fault),
     }
 }
 
@@ -68,11 +43,7 @@ fn check_room(answer: &[u8], line: u32) -> Result<(), Fault>
     ensures { result ≡ roomy line (length answer.now) tt }
 {
     if answer.len() < ANSWER_BYTES {
-        return Err(Fault {
-            question: Question::AnswerRoom,
-            line,
-            column: 1,
-        });
+        return Err(Fault::at(line, 1, Question::AnswerRoom));
     }
     Ok(())
 }
@@ -83,10 +54,9 @@ fn write(answer: &Answer, memory: &mut [u8]) -> usize
     ensures written { result ≡ length (answer_text answer.now) }
     ensures memory { memory.new ≡ answer_text answer.now ++ drop (length (answer_text answer.now)) memory.old }
 {
-    let reply = Reply::of(answer);
-    let text = reply.text();
+    let text = answer_text(answer);
     let n = text.len();
-    memory[..n].copy_from_slice(text);
+    memory[..n].copy_from_slice(text.as_str().as_bytes());
     n
 }
 
@@ -115,24 +85,48 @@ pub fn answer_heading(bytes: &[u8], number: u32, answer: &mut [u8]) -> Result<Op
     }
 }
 
-// Carries a line behind the first out, writes its answer and says how many bytes that took. The bytes behind the answer
-// stay as they are. Where the memory is too small nothing is carried out.
+// Bench, holder and loss stay three parameters: a struct that owned them would take them from callers who only lend
+// them, and one that borrowed them would not say what they are afterwards.
+
+// Carries a line out.
+fn obey<P: LinePoint, L: Loss<Point = P> + Copy, H: Holder>(
+    bench: &mut Bench<'_, P>,
+    holder: &mut H,
+    loss: &L,
+    bytes: &[u8],
+    number: u32,
+) -> Answer
+    ensures answer { result ≡ line_answer P.told L.slope L.FIELDS loss.now bench.old.top (H.room holder.old) (record { clears = H.cleared; extends = H.extended }) (standing bench.old (H.listed holder.old) (H.memory holder.old)) number bytes.now }
+    ensures after { standing bench.new (H.listed holder.new) (H.memory holder.new) ≡ line_after P.told L.slope L.FIELDS loss.now bench.old.top (H.room holder.old) (record { clears = H.cleared; extends = H.extended }) (standing bench.old (H.listed holder.old) (H.memory holder.old)) number bytes.now }
+    ensures top { bench.new.top ≡ bench.old.top }
+    ensures room { H.room holder.new ≡ H.room holder.old }
+    ensures places { places_of (memory_of bench.new) ≡ places_of (memory_of bench.old) }
+    ensures law { (h : History P) → Kept bench.old (H.room holder.old) (H.listed holder.old) h → ((after : History P) × Entered L.cost (line_request P.told L.FIELDS loss.now number bytes.now) (answered L.slope bench.old.top (H.room holder.old) (record { clears = H.cleared; extends = H.extended }) (standing bench.old (H.listed holder.old) (H.memory holder.old))) h after × Kept bench.new (H.room holder.new) (H.listed holder.new) after) }
+{
+    match read_request(loss, bytes, number) {
+        Ok(request) => answer_at(bench.serve(holder, &request), number, column(&request)),
+        Err(fault) => Answer::Refused(fault),
+    }
+}
+
+// Carries a line behind the first out, writes its answer and says how many bytes that took. The bytes behind the
+// answer stay as they are. Where the memory is too small nothing is carried out.
 pub fn answer_line<P: LinePoint, L: Loss<Point = P> + Copy, H: Holder>(
     bench: &mut Bench<'_, P>,
     holder: &mut H,
-    script: &Script<L>,
+    loss: &L,
     bytes: &[u8],
     number: u32,
     answer: &mut [u8],
 ) -> Result<usize, Fault>
-    ensures value { result ≡ roomy number (length answer.old) (length (answer_text (line_answer P.told L.slope script.now.fields script.now.loss bench.old.top (H.room holder.old) (record { clears = H.cleared; extends = H.extended }) (standing bench.old (H.listed holder.old) (H.memory holder.old)) number bytes.now))) }
-    ensures text { answer.new ≡ with_answer answer.old (line_answer P.told L.slope script.now.fields script.now.loss bench.old.top (H.room holder.old) (record { clears = H.cleared; extends = H.extended }) (standing bench.old (H.listed holder.old) (H.memory holder.old)) number bytes.now) }
-    ensures after { standing bench.new (H.listed holder.new) (H.memory holder.new) ≡ after_request P.told L.slope script.now.fields script.now.loss bench.old.top (H.room holder.old) (record { clears = H.cleared; extends = H.extended }) (standing bench.old (H.listed holder.old) (H.memory holder.old)) (roomy_request P.told L.slope script.now.fields script.now.loss bench.old.top (H.room holder.old) (record { clears = H.cleared; extends = H.extended }) (length answer.old) number bytes.now) }
+    ensures value { result ≡ roomy number (length answer.old) (length (answer_text (line_answer P.told L.slope L.FIELDS loss.now bench.old.top (H.room holder.old) (record { clears = H.cleared; extends = H.extended }) (standing bench.old (H.listed holder.old) (H.memory holder.old)) number bytes.now))) }
+    ensures text { answer.new ≡ with_answer answer.old (line_answer P.told L.slope L.FIELDS loss.now bench.old.top (H.room holder.old) (record { clears = H.cleared; extends = H.extended }) (standing bench.old (H.listed holder.old) (H.memory holder.old)) number bytes.now) }
+    ensures after { standing bench.new (H.listed holder.new) (H.memory holder.new) ≡ after_request P.told L.slope L.FIELDS loss.now bench.old.top (H.room holder.old) (record { clears = H.cleared; extends = H.extended }) (standing bench.old (H.listed holder.old) (H.memory holder.old)) (roomy_request P.told L.slope L.FIELDS loss.now bench.old.top (H.room holder.old) (record { clears = H.cleared; extends = H.extended }) (length answer.old) number bytes.now) }
     ensures top { bench.new.top ≡ bench.old.top }
     ensures room { H.room holder.new ≡ H.room holder.old }
     ensures places { places_of (memory_of bench.new) ≡ places_of (memory_of bench.old) }
-    ensures law { (h : History P) → Kept bench.old (H.room holder.old) (H.listed holder.old) h → ((after : History P) × Entered L.cost (roomy_request P.told L.slope script.now.fields script.now.loss bench.old.top (H.room holder.old) (record { clears = H.cleared; extends = H.extended }) (length answer.old) number bytes.now) (answered L.slope bench.old.top (H.room holder.old) (record { clears = H.cleared; extends = H.extended }) (standing bench.old (H.listed holder.old) (H.memory holder.old))) h after × Kept bench.new (H.room holder.new) (H.listed holder.new) after) }
+    ensures law { (h : History P) → Kept bench.old (H.room holder.old) (H.listed holder.old) h → ((after : History P) × Entered L.cost (roomy_request P.told L.slope L.FIELDS loss.now bench.old.top (H.room holder.old) (record { clears = H.cleared; extends = H.extended }) (length answer.old) number bytes.now) (answered L.slope bench.old.top (H.room holder.old) (record { clears = H.cleared; extends = H.extended }) (standing bench.old (H.listed holder.old) (H.memory holder.old))) h after × Kept bench.new (H.room holder.new) (H.listed holder.new) after) }
 {
     check_room(answer, number)?;
-    Ok(write(&obey(bench, holder, script, bytes, number), answer))
+    Ok(write(&obey(bench, holder, loss, bytes, number), answer))
 }

@@ -22,17 +22,18 @@ returns g c =
     let holder = c.args.holder.now in
     let room = h.room holder in
     let st = standing b (h.listed holder) (h.memory holder) in
-    let script = c.args.script.now in
+    let fields = g.L.Loss.FIELDS in
+    let loss = c.args.loss.now in
     let told = g.P.LinePoint.told in
     let slope = g.L.Loss.slope in
     let mem = c.args.answer.now in
-    let request = line_request told script.fields script.loss c.args.number c.args.bytes.now in
+    let request = line_request told fields loss c.args.number c.args.bytes.now in
     let wide : leb 32 (length mem) ≡ true = room_told {X = Unit {0}} tt (leb 32 (length mem)) _ c.in_ok-check_room.ensures in
     let taken = ap (λ r. and_then {X = Unit {0}} r (λ _. request)) (cond-true (leb 32 (length mem)) (Ok tt) _ wide) in
     record {
       value = ap Ok (c.write.ensures.written ∙ ap (λ a. length (answer_text a)) c.obey.ensures.answer) ∙ sym (cond-true (leb 32 (length mem)) _ _ wide);
       text = c.write.ensures.memory ∙ (ap (λ a. answer_text a ++ drop (length (answer_text a)) mem) c.obey.ensures.answer ∙ sym (cond-true (leb 32 (length mem)) _ _ wide));
-      after = c.obey.ensures.after ∙ ap (after_request told slope script.fields script.loss b.top room w st) (sym taken);
+      after = c.obey.ensures.after ∙ ap (after_request told slope fields loss b.top room w st) (sym taken);
       top = c.obey.ensures.top;
       room = c.obey.ensures.room;
       places = c.obey.ensures.places;
