@@ -20,9 +20,7 @@ fn run(rt: &HostRuntime) -> Result<(), Stop> {
 }
 
 fn main(rt: HostRuntime) -> Result<(), Stop> {
-    let ended = run(&rt);
-    if let Err(stop) = &ended {
+    run(&rt).inspect_err(|stop| {
         let _ = eprintln!(rt; "console: {stop}");
-    }
-    ended
+    })
 }

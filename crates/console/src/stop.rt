@@ -1,32 +1,13 @@
 // Why the program gives no answer.
-use answers::console::ConsoleError;
-use std::{fmt, io};
+use std::alloc::AllocError;
+use std::io;
+use thiserror::Error;
 
-#[derive(Debug, Drop)]
+// The program `scripts` has an equal one: a crate that both use would be longer than either.
+#[derive(Debug, Drop, Error)]
 pub enum Stop {
-    Memory,
-    Io(io::Error),
-}
-
-impl fmt::Display for Stop {
-    fn fmt<W: fmt::Write>(&self, f: &mut fmt::Formatter<W>) -> fmt::Result {
-        match self {
-            Stop::Memory => f.write_str("out of memory"),
-            Stop::Io(error) => write!(f, "{error}"),
-        }
-    }
-}
-
-impl From<ConsoleError> for Stop {
-    fn from(error: ConsoleError) -> Stop {
-        match error {
-            ConsoleError::Memory => Stop::Memory,
-        }
-    }
-}
-
-impl From<io::Error> for Stop {
-    fn from(error: io::Error) -> Stop {
-        Stop::Io(error)
-    }
+    #[error("out of memory")]
+    Memory(#[from(alloc)] AllocError),
+    #[error(transparent)]
+    Io(#[from] io::Error),
 }

@@ -8,9 +8,10 @@ mod stop;
 use bench::Bench;
 use fit::Entry;
 use loss::{Reading, Squares};
+use measure::{checksum, nanos_each, turns_told};
 use std::alloc::Global;
-use std::env;
 use std::time::Instant;
+use std::{env, fmt};
 use stop::Stop;
 use table::text::TextTable;
 
@@ -26,15 +27,17 @@ enum Order {
     Random,
 }
 
-impl Order {
-    fn name(self) -> &'static str {
-        match self {
+impl fmt::Display for Order {
+    fn fmt<W: fmt::Write>(&self, f: &mut fmt::Formatter<W>) -> fmt::Result {
+        f.write_str(match self {
             Order::Rising => "rising",
             Order::Falling => "falling",
             Order::Random => "random",
-        }
+        })
     }
+}
 
+impl Order {
     // The i-th count. The factor is odd, so that no count comes twice.
     fn count(self, i: u32) -> u32 {
         match self {
@@ -59,15 +62,6 @@ fn add_all(bench: &mut Bench<'_, Reading>, order: Order) -> Result<(), Stop> {
     Ok(())
 }
 
-// Tells texts apart.
-fn checksum(text: &[u8]) -> u64 {
-    let mut sum: u64 = 0;
-    for byte in text {
-        sum = sum.wrapping_mul(1_000_003).wrapping_add(u64::from(*byte));
-    }
-    sum
-}
-
 // The sum of the levels of counts between the rows.
 fn convert_all(bench: &Bench<'_, Reading>, table: &TextTable<'_>) -> Result<u64, Stop> {
     let mut sum: u64 = 0;
@@ -81,8 +75,7 @@ fn convert_all(bench: &Bench<'_, Reading>, table: &TextTable<'_>) -> Result<u64,
 // Ends a line, with the nanoseconds of one of so many calls where time was taken.
 fn end_line(rt: &HostRuntime, start: Instant, turns: Option<u32>, calls: u32) -> Result<(), Stop> {
     if let Some(turns) = turns {
-        let all = u128::from(turns).saturating_mul(u128::from(calls));
-        let nanos = start.elapsed(rt)?.as_nanos().checked_div(all).unwrap_or(0);
+        let nanos = nanos_each(start.elapsed(rt)?, u64::from(turns) * u64::from(calls));
         print!(rt; " {nanos}")?;
     }
     println!(rt)?;
@@ -109,8 +102,7 @@ fn measure_adds(rt: &HostRuntime, order: Order, turns: Option<u32>) -> Result<()
     let mut table = TextTable::new(&mut bytes);
     bench.lay(&Squares, &mut table)?;
     let sum = checksum(table.text());
-    let name = order.name();
-    print!(rt; "add {name} {sum:016x}")?;
+    print!(rt; "add {order} {sum:016x}")?;
     end_line(rt, start, turns, POINTS)
 }
 
@@ -136,23 +128,9 @@ fn measure_rest(rt: &HostRuntime, turns: Option<u32>) -> Result<(), Stop> {
     end_line(rt, start, turns, CONVERSIONS)
 }
 
-// The number after the word `time`, where the program is called with it.
-fn turns_asked(rt: &HostRuntime) -> Result<Option<u32>, Stop> {
-    let mut args = env::args(rt)?.skip(1);
-    let Some(word) = args.next() else {
-        return Ok(None);
-    };
-    if word.as_str() != "time" {
-        return Err(Stop::Usage);
-    }
-    match args.next() {
-        Some(turns) => Ok(Some(turns.parse()?)),
-        None => Err(Stop::Usage),
-    }
-}
-
 fn main(rt: HostRuntime) -> Result<(), Stop> {
-    let turns = turns_asked(&rt)?;
+    let words = env::args(&rt)?.skip(1).collect::<Vec<String>>(rt.alloc())?;
+    let turns = turns_told(&words)?;
     for order in [Order::Rising, Order::Falling, Order::Random] {
         measure_adds(&rt, order, turns)?;
     }

@@ -1,38 +1,25 @@
 // Why the program stops early.
 use fault::Fault;
+use measure::Usage;
 use std::alloc::AllocError;
 use std::io;
-use std::num::ParseIntError;
+use thiserror::Error;
 
-#[derive(Debug, Drop)]
+#[derive(Debug, Drop, Error)]
 pub enum Stop {
-    // The words of the call are neither none nor `time N`.
+    #[error("usage: pace [time N]")]
     Usage,
-    Refused(Fault),
-    Memory,
-    Io(io::Error),
+    #[error("refused: {0}")]
+    Refused(#[from] Fault),
+    #[error("out of memory")]
+    Memory(#[from] AllocError),
+    #[error(transparent)]
+    Io(#[from] io::Error),
 }
 
-impl From<ParseIntError> for Stop {
-    fn from(_e: ParseIntError) -> Stop {
+// By hand, since `#[from]` would have a field, and that would be printed where the program ends.
+impl From<Usage> for Stop {
+    fn from(_e: Usage) -> Stop {
         Stop::Usage
-    }
-}
-
-impl From<Fault> for Stop {
-    fn from(fault: Fault) -> Stop {
-        Stop::Refused(fault)
-    }
-}
-
-impl From<AllocError> for Stop {
-    fn from(_e: AllocError) -> Stop {
-        Stop::Memory
-    }
-}
-
-impl From<io::Error> for Stop {
-    fn from(error: io::Error) -> Stop {
-        Stop::Io(error)
     }
 }

@@ -12,7 +12,7 @@ use loss::{Absolute, Band, Bands, Loss, PullLimit, Reading, Squares};
 use std::alloc::Global;
 use stop::Stop;
 use table::binary::BinaryTable;
-use table::holder::Holder;
+use table::holder::{Holder, rows};
 use table::opening::open;
 use table::text::TextTable;
 use task::{Step, TASK, Told};
@@ -48,37 +48,24 @@ const SWEEP: [(u32, u32, u32); 12] = [
     (12_000, 118, 10),
 ];
 
-// A point made of what was read.
-trait Measured {
-    fn measured(level: u32, weight: u32) -> Result<Self, Fault>;
-}
-
-impl Measured for Reading {
-    fn measured(level: u32, weight: u32) -> Result<Reading, Fault> {
-        Reading::new(level, weight)
-    }
-}
-
-impl Measured for Band {
-    fn measured(level: u32, weight: u32) -> Result<Band, Fault> {
-        Band::new(
-            level.saturating_sub(MARGIN),
-            level.saturating_add(MARGIN),
-            weight,
-        )
-    }
-}
-
 // The calls as the bench takes them.
 fn requests(
     heap: Global,
     steps: &[Step],
 ) -> Result<Vec<Request<Reading, PullLimit<Squares>>>, Stop> {
-    let mut requests = Vec::new(heap);
-    for step in steps {
-        requests.push(step.request()?)?;
-    }
-    Ok(requests)
+    steps
+        .iter()
+        .map(|step| step.request().map_err(Stop::from))
+        .try_collect(heap)
+}
+
+// The band around a level that was read.
+fn band(level: u32, weight: u32) -> Result<Band, Fault> {
+    Band::new(
+        level.saturating_sub(MARGIN),
+        level.saturating_add(MARGIN),
+        weight,
+    )
 }
 
 fn print_table(rt: &HostRuntime, table: &TextTable<'_>) -> Result<(), Stop> {
@@ -87,31 +74,33 @@ fn print_table(rt: &HostRuntime, table: &TextTable<'_>) -> Result<(), Stop> {
     Ok(())
 }
 
-// The sweep as points of one kind.
-fn sweep<P: Measured + Drop>(heap: Global) -> Result<Vec<Entry<P>>, Stop> {
-    let mut entries = Vec::new(heap);
-    for (count, level, weight) in SWEEP {
-        let point = P::measured(level, weight)?;
-        entries.push(Entry { count, point })?;
-    }
-    Ok(entries)
+// The sweep as points that are made of each level read and its weight.
+fn sweep<P: Drop, F: Fn(u32, u32) -> Result<P, Fault> + Drop>(
+    heap: Global,
+    point: F,
+) -> Result<Vec<Entry<P>>, Stop>
+    requires { F.IsAlwaysCallable point }
+{
+    SWEEP
+        .iter()
+        .map(|(count, level, weight)| {
+            let count = *count;
+            let point = point(*level, *weight)?;
+            Ok(Entry { count, point })
+        })
+        .try_collect(heap)
 }
 
 // Writes the rows of a table in binary, opens the bytes again, and says what came of it.
 fn keep_binary(rt: &HostRuntime, table: &TextTable<'_>) -> Result<(), Stop> {
     let mut bytes = [0; BLOCK];
     let mut binary = BinaryTable::new(&mut bytes);
-    for i in 0..table.len() {
-        if let Some((count, level)) = table.row(i) {
-            binary.put(count, level)?;
-        }
+    for (count, level) in rows(table) {
+        binary.put(count, level)?;
     }
     let written = binary.blocks().len();
     let opened = open(binary.blocks())?;
-    let mut same = opened.rows().len() == table.len();
-    for (i, row) in opened.rows().iter().enumerate() {
-        same = same && table.row(i) == Some(*row);
-    }
+    let same = rows(table).eq(opened);
     println!(rt; "binary: {written} bytes, opened again with the same rows: {same}")?;
     Ok(())
 }
@@ -145,10 +134,7 @@ fn lay_under<L: Loss>(
 where
     L::Point: Copy,
 {
-    let mut memory = Vec::new(rt.alloc());
-    for entry in points {
-        memory.push(*entry)?;
-    }
+    let mut memory = Vec::from_slice(rt.alloc(), points)?;
     let mut bench = Bench::open(&mut memory, TOP);
     for entry in points {
         bench.add(entry.count, entry.point)?;
@@ -163,10 +149,10 @@ where
 fn run(rt: &HostRuntime) -> Result<(), Stop> {
     follow(rt)?;
     let heap = rt.alloc();
-    let readings = sweep::<Reading>(heap)?;
+    let readings = sweep(heap, Reading::new)?;
     lay_under(rt, "table, absolute", &Absolute, &readings)?;
     let wide = format!(in heap; "table, bands {MARGIN} to either side")?;
-    let bands = sweep::<Band>(heap)?;
+    let bands = sweep(heap, band)?;
     lay_under(rt, &wide, &Bands, &bands)
 }
 

@@ -3,6 +3,8 @@
 // hold.
 #![tactic(auto)]
 
+ghost use Rattle.std.specs.Prelude.{◌≡◌, ◌↔◌, IsNone};
+
 mod stop;
 #[cfg(test)]
 mod tests;
@@ -13,44 +15,38 @@ use std::{fmt, fs};
 use stop::Stop;
 use worked::examples_hold;
 
-// What came of a script.
-#[derive(Clone, Copy, PartialEq, Eq)]
-enum Verdict {
-    Same,
-    // The first byte, counted from 1, that one of the two texts lacks or has otherwise.
-    Differs(usize),
+// Where two texts differ: the first byte, counted from 1, that one of them lacks or has otherwise.
+#[derive(Clone, Copy)]
+struct Difference {
+    byte: usize,
 }
 
-impl fmt::Display for Verdict {
+impl Difference {
+    fn between(written: &[u8], expected: &[u8]) -> Option<Difference>
+        ensures { IsNone result ↔ (written.now ≡ expected.now) }
+    {
+        let common = written.len().min(expected.len());
+        match written.iter().zip(expected).position(|(a, b)| a != b) {
+            Some(at) => Some(Difference { byte: at + 1 }),
+            None if written.len() != expected.len() => Some(Difference { byte: common + 1 }),
+            None => None,
+        }
+    }
+}
+
+impl fmt::Display for Difference {
     fn fmt<W: fmt::Write>(&self, f: &mut fmt::Formatter<W>) -> fmt::Result {
-        match self {
-            Verdict::Same => f.write_str("ok"),
-            Verdict::Differs(byte) => write!(f, "differs at byte {byte}"),
-        }
+        let byte = self.byte;
+        write!(f, "differs at byte {byte}")
     }
 }
 
-fn compare(written: &[u8], expected: &[u8]) -> Verdict {
-    let mut byte: usize = 1;
-    for (a, b) in written.iter().zip(expected) {
-        if a != b {
-            return Verdict::Differs(byte);
-        }
-        byte = byte.saturating_add(1);
-    }
-    if written.len() == expected.len() {
-        Verdict::Same
-    } else {
-        Verdict::Differs(byte)
-    }
-}
-
-fn judge(rt: &HostRuntime, name: &str) -> Result<Verdict, Stop> {
+fn judge(rt: &HostRuntime, name: &str) -> Result<Option<Difference>, Stop> {
     let heap = rt.alloc();
     let script = fs::read(rt, &format!(in heap; "{name}.in")?)?;
     let expected = fs::read(rt, &format!(in heap; "{name}.out")?)?;
     let written = console(heap, &script)?;
-    Ok(compare(&written, &expected))
+    Ok(Difference::between(&written, &expected))
 }
 
 fn run(rt: &HostRuntime) -> Result<(), Stop> {
@@ -58,11 +54,13 @@ fn run(rt: &HostRuntime) -> Result<(), Stop> {
     let mut same: u64 = 0;
     for name in BufReader::new(rt.alloc(), rt.stdin())?.lines(rt.alloc()) {
         let name = name?;
-        let verdict = judge(rt, &name)?;
-        println!(rt; "{name} {verdict}")?;
         scripts = scripts.saturating_add(1);
-        if verdict == Verdict::Same {
-            same = same.saturating_add(1);
+        match judge(rt, &name)? {
+            None => {
+                same = same.saturating_add(1);
+                println!(rt; "{name} ok")?;
+            }
+            Some(difference) => println!(rt; "{name} {difference}")?,
         }
     }
     println!(rt; "{same} of {scripts} ok")?;
@@ -72,9 +70,7 @@ fn run(rt: &HostRuntime) -> Result<(), Stop> {
 }
 
 fn main(rt: HostRuntime) -> Result<(), Stop> {
-    let ended = run(&rt);
-    if let Err(stop) = &ended {
+    run(&rt).inspect_err(|stop| {
         let _ = eprintln!(rt; "scripts: {stop}");
-    }
-    ended
+    })
 }

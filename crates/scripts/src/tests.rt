@@ -3,8 +3,7 @@ use answers::obey::{answer_heading, answer_line};
 use bench::Bench;
 use fault::{Fault, Question};
 use fit::Entry;
-use lines::requests::Script;
-use loss::Reading;
+use loss::{Reading, Squares};
 use std::test::Fail;
 use table::text::TextTable;
 
@@ -14,29 +13,31 @@ fn an_answer_wants_32_bytes(rt: HostRuntime) {
         count: 0,
         point: Reading::lightest(),
     }; 2];
-    let mut bench = Bench::open(&mut memory, 10);
     let mut bytes = [0; 30];
+    let mut bench = Bench::open(&mut memory, 10);
     let mut table = TextTable::new(&mut bytes);
-    let script = Script::squares();
     let line = b"p 10 3 1".as_slice();
     let mut small = [7; 31];
     assert_eq!(rt;
-        answer_line(&mut bench, &mut table, &script, line, 5, &mut small),
-        Err(Fault {
-            question: Question::AnswerRoom,
-            line: 5,
-            column: 1,
-        })
+        answer_line(&mut bench, &mut table, &Squares, line, 5, &mut small),
+        Err(Fault::at(5, 1, Question::AnswerRoom))
     );
     assert_eq!(rt; small, [7; 31]);
     let mut answer = [7; 32];
     assert_eq!(rt;
-        answer_line(&mut bench, &mut table, &script, line, 6, &mut answer),
+        answer_line(&mut bench, &mut table, &Squares, line, 6, &mut answer),
         Ok(3)
     );
     assert_eq!(rt; answer.starts_with(b"ok\n\x07".as_slice()), true);
     assert_eq!(rt;
-        answer_line(&mut bench, &mut table, &script, line, u32::MAX, &mut answer),
+        answer_line(
+            &mut bench,
+            &mut table,
+            &Squares,
+            line,
+            u32::MAX,
+            &mut answer
+        ),
         Ok(20)
     );
     assert_eq!(rt;

@@ -10,22 +10,23 @@ mod stop;
 mod text;
 
 use fit::{Entry, fit};
+use lines::verbs::LossName;
 use loss::{Absolute, Bands, Loss, PullLimit, Squares};
 use std::alloc::Global;
 use std::io::{BufRead, BufReader};
 use stop::Stop;
-use text::{FromText, Kind, Sweep};
+use text::{FromText, Sweep};
 
 // The points of a sweep. A line tells no counts, so the points are numbered.
 fn entries<P: FromText + Drop>(heap: Global, points: &str) -> Result<Vec<Entry<P>>, Stop> {
-    let mut found = Vec::new(heap);
-    let mut count: u32 = 0;
-    for word in points.split_whitespace() {
-        let point = P::from_text(word)?;
-        found.push(Entry { count, point })?;
-        count = count.saturating_add(1);
-    }
-    Ok(found)
+    points
+        .split_whitespace()
+        .zip(0..)
+        .map(|(word, count)| {
+            let point = P::from_text(word)?;
+            Ok(Entry { count, point })
+        })
+        .try_collect(heap)
 }
 
 fn levels<L: Loss>(heap: Global, loss: &L, sweep: &Sweep<'_>) -> Result<Vec<u16>, Stop>
@@ -50,18 +51,18 @@ where
 }
 
 fn fitted(heap: Global, sweep: &Sweep<'_>) -> Result<Vec<u16>, Stop> {
-    match sweep.kind {
-        Kind::Squares => limited(heap, Squares, sweep),
-        Kind::Absolute => limited(heap, Absolute, sweep),
-        Kind::Bands => limited(heap, Bands, sweep),
+    match sweep.loss {
+        LossName::Squares => limited(heap, Squares, sweep),
+        LossName::Absolute => limited(heap, Absolute, sweep),
+        LossName::Bands => limited(heap, Bands, sweep),
     }
 }
 
 // Levels with single spaces between.
 fn joined(heap: Global, levels: &[u16]) -> Result<String, Stop> {
     let mut line = String::new(heap);
-    for (i, level) in levels.iter().enumerate() {
-        if i > 0 {
+    for level in levels {
+        if !line.is_empty() {
             line.push(' ')?;
         }
         write!(line, "{level}")?;
@@ -70,10 +71,11 @@ fn joined(heap: Global, levels: &[u16]) -> Result<String, Stop> {
 }
 
 fn answer(heap: Global, line: &str) -> Result<String, Stop> {
-    let sweep = Sweep::from_line(line)?;
+    let sweep = Sweep::try_from(line)?;
     joined(heap, &fitted(heap, &sweep)?)
 }
 
+// As in `tables`: to share it, a third crate would have to ask that its closure may be called.
 fn run(rt: &HostRuntime) -> Result<(), Stop> {
     for line in BufReader::new(rt.alloc(), rt.stdin())?.lines(rt.alloc()) {
         let line = line?;
@@ -85,9 +87,7 @@ fn run(rt: &HostRuntime) -> Result<(), Stop> {
 }
 
 fn main(rt: HostRuntime) -> Result<(), Stop> {
-    let ended = run(&rt);
-    if let Err(stop) = &ended {
+    run(&rt).inspect_err(|stop| {
         let _ = eprintln!(rt; "sweeps: {stop}");
-    }
-    ended
+    })
 }

@@ -1,32 +1,21 @@
 // The text of a sweep.
 use crate::stop::Stop;
+use lines::verbs::LossName;
 use loss::{Band, Reading};
-
-// The loss that a line asks for.
-#[derive(Clone, Copy)]
-pub enum Kind {
-    Squares,
-    Absolute,
-    Bands,
-}
 
 // A line of input, its points not yet read.
 #[derive(Clone, Copy)]
 pub struct Sweep<'a> {
-    pub kind: Kind,
+    pub loss: LossName,
     pub limit: Option<u32>,
     pub top: u16,
     pub points: &'a str,
 }
 
-impl Kind {
-    fn from_word(word: &str) -> Result<Kind, Stop> {
-        match word {
-            "s" => Ok(Kind::Squares),
-            "a" => Ok(Kind::Absolute),
-            "b" => Ok(Kind::Bands),
-            _ => Err(Stop::Line),
-        }
+fn loss_from_word(word: &str) -> Result<LossName, Stop> {
+    match word.as_bytes() {
+        [letter] => LossName::of(*letter).ok_or(Stop::Line),
+        _ => Err(Stop::Line),
     }
 }
 
@@ -37,14 +26,16 @@ fn limit_from_word(word: &str) -> Result<Option<u32>, Stop> {
     Ok(Some(word.parse()?))
 }
 
-impl Sweep<'_> {
-    pub fn from_line(line: &str) -> Result<Sweep<'_>, Stop> {
+impl<'a> TryFrom<&'a str> for Sweep<'a> {
+    type Error = Stop;
+
+    fn try_from(line: &'a str) -> Result<Sweep<'a>, Stop> {
         let mut parts = line.split(':');
         let (Some(head), Some(points)) = (parts.next(), parts.next()) else {
             return Err(Stop::Line);
         };
         let mut words = head.split_whitespace();
-        let (Some(kind), Some(limit), Some(top), None) = (
+        let (Some(loss), Some(limit), Some(top), None) = (
             words.next(),
             words.next(),
             words.next(),
@@ -53,7 +44,7 @@ impl Sweep<'_> {
             return Err(Stop::Line);
         };
         Ok(Sweep {
-            kind: Kind::from_word(kind)?,
+            loss: loss_from_word(loss)?,
             limit: limit_from_word(limit)?,
             top: top.parse()?,
             points,
@@ -61,34 +52,33 @@ impl Sweep<'_> {
     }
 }
 
-// A point that is written with strokes between its numbers.
-pub trait FromText {
-    fn from_text(word: &str) -> Result<Self, Stop>
-    where
-        Self: Sized;
+// So many numbers, with strokes between.
+fn numbers<const N: usize>(word: &str) -> Result<[u32; N], Stop> {
+    if word.split('/').count() != N {
+        return Err(Stop::Line);
+    }
+    let mut numbers = [0; N];
+    for (number, part) in numbers.iter_mut().zip(word.split('/')) {
+        *number = part.parse()?;
+    }
+    Ok(numbers)
+}
+
+// A point as it is written.
+pub trait FromText: Sized {
+    fn from_text(word: &str) -> Result<Self, Stop>;
 }
 
 impl FromText for Reading {
     fn from_text(word: &str) -> Result<Reading, Stop> {
-        let mut parts = word.split('/');
-        let (Some(level), Some(weight), None) = (parts.next(), parts.next(), parts.next()) else {
-            return Err(Stop::Line);
-        };
-        Ok(Reading::new(level.parse()?, weight.parse()?)?)
+        let [level, weight] = numbers::<2>(word)?;
+        Ok(Reading::new(level, weight)?)
     }
 }
 
 impl FromText for Band {
     fn from_text(word: &str) -> Result<Band, Stop> {
-        let mut parts = word.split('/');
-        let (Some(low), Some(high), Some(weight), None) = (
-            parts.next(),
-            parts.next(),
-            parts.next(),
-            parts.next(),
-        ) else {
-            return Err(Stop::Line);
-        };
-        Ok(Band::new(low.parse()?, high.parse()?, weight.parse()?)?)
+        let [low, high, weight] = numbers::<3>(word)?;
+        Ok(Band::new(low, high, weight)?)
     }
 }

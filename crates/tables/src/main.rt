@@ -10,7 +10,7 @@
 mod damage;
 mod stop;
 
-use damage::{Case, damage};
+use damage::{Case, damage, two_numbers};
 use std::alloc::Global;
 use std::io::{BufRead, BufReader};
 use stop::Stop;
@@ -24,11 +24,8 @@ const MEMORY: usize = 8704;
 // Puts rows that are written as words.
 fn put_all<H: Holder>(holder: &mut H, rows: &str) -> Result<(), Stop> {
     for row in rows.split_whitespace() {
-        let mut parts = row.split(':');
-        let (Some(count), Some(level), None) = (parts.next(), parts.next(), parts.next()) else {
-            return Err(Stop::Line);
-        };
-        holder.put(count.parse()?, level.parse()?)?;
+        let (count, level) = two_numbers(row, ':')?;
+        holder.put(count, level)?;
     }
     Ok(())
 }
@@ -38,27 +35,20 @@ fn blocks(heap: Global, rows: &str) -> Result<Vec<u8>, Stop> {
     let mut memory = vec![in heap; 0; MEMORY]?;
     let mut table = BinaryTable::new(&mut memory);
     put_all(&mut table, rows)?;
-    let mut bytes = Vec::new(heap);
-    bytes.extend_from_slice(table.blocks())?;
-    Ok(bytes)
+    Ok(Vec::from_slice(heap, table.blocks())?)
 }
 
 fn answer(heap: Global, line: &str) -> Result<String, Stop> {
-    let case = Case::from_line(line)?;
+    let case = Case::try_from(line)?;
     let mut bytes = blocks(heap, case.rows)?;
     damage(&mut bytes, case)?;
-    match open(&bytes) {
-        Ok(_) => Ok(format!(in heap; "ok")?),
-        Err(fault) => {
-            let layer = fault.question.layer();
-            let number = fault.question.number();
-            let line = fault.line;
-            let column = fault.column;
-            Ok(format!(in heap; "{layer} {number} {line} {column}")?)
-        }
-    }
+    Ok(match open(&bytes) {
+        Ok(_) => "ok".to_string(heap)?,
+        Err(fault) => fault.to_string(heap)?,
+    })
 }
 
+// As in `sweeps`: to share it, a third crate would have to ask that its closure may be called.
 fn run(rt: &HostRuntime) -> Result<(), Stop> {
     for line in BufReader::new(rt.alloc(), rt.stdin())?.lines(rt.alloc()) {
         let line = line?;
@@ -70,9 +60,7 @@ fn run(rt: &HostRuntime) -> Result<(), Stop> {
 }
 
 fn main(rt: HostRuntime) -> Result<(), Stop> {
-    let ended = run(&rt);
-    if let Err(stop) = &ended {
+    run(&rt).inspect_err(|stop| {
         let _ = eprintln!(rt; "tables: {stop}");
-    }
-    ended
+    })
 }

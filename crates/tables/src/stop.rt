@@ -1,68 +1,28 @@
 // Why the program stops early.
 use fault::Fault;
-use std::alloc::{AllocError, AllocFailed};
+use std::alloc::AllocError;
+use std::io;
 use std::num::ParseIntError;
-use std::{fmt, io};
+use thiserror::Error;
 
-#[derive(Debug, Drop)]
+#[derive(Debug, Drop, Error)]
 pub enum Stop {
-    // The line is not of the form that is read.
+    #[error("a line is not of the form rows | patches | +")]
     Line,
-    // A number is not one, or is too great.
+    #[error("a number is malformed or too great")]
     Number,
     // A row cannot be put.
-    Row(Fault),
-    Memory,
-    Io(io::Error),
+    #[error("a row is refused by question {number}", number = .0.question.number())]
+    Row(#[from] Fault),
+    #[error("out of memory")]
+    Memory(#[from(alloc)] AllocError),
+    #[error(transparent)]
+    Io(#[from] io::Error),
 }
 
-impl fmt::Display for Stop {
-    fn fmt<W: fmt::Write>(&self, f: &mut fmt::Formatter<W>) -> fmt::Result {
-        match self {
-            Stop::Line => f.write_str("a line is not of the form rows | patches | +"),
-            Stop::Number => f.write_str("a number is malformed or too great"),
-            Stop::Row(fault) => {
-                let number = fault.question.number();
-                write!(f, "a row is refused by question {number}")
-            }
-            Stop::Memory => f.write_str("out of memory"),
-            Stop::Io(error) => write!(f, "{error}"),
-        }
-    }
-}
-
+// By hand, since `#[from]` would have a field, and that would be printed where the program ends.
 impl From<ParseIntError> for Stop {
     fn from(_e: ParseIntError) -> Stop {
         Stop::Number
-    }
-}
-
-impl From<Fault> for Stop {
-    fn from(fault: Fault) -> Stop {
-        Stop::Row(fault)
-    }
-}
-
-impl From<AllocError> for Stop {
-    fn from(_e: AllocError) -> Stop {
-        Stop::Memory
-    }
-}
-
-impl<T: Drop> From<AllocFailed<T>> for Stop {
-    fn from(_e: AllocFailed<T>) -> Stop {
-        Stop::Memory
-    }
-}
-
-impl From<fmt::Error> for Stop {
-    fn from(_e: fmt::Error) -> Stop {
-        Stop::Memory
-    }
-}
-
-impl From<io::Error> for Stop {
-    fn from(error: io::Error) -> Stop {
-        Stop::Io(error)
     }
 }

@@ -7,6 +7,7 @@ mod sweep;
 
 use fit::{Entry, fit};
 use loss::{Absolute, Bands, Loss, PullLimit, Squares};
+use measure::{checksum, nanos_each, turns_told};
 use std::env;
 use std::time::Instant;
 use stop::Stop;
@@ -17,30 +18,6 @@ const TOP: u16 = 65_535;
 
 // The pull limit over the squares.
 const LIMIT: u32 = 1_000_000;
-
-// The number after the word `time`, where the program is called with it.
-fn turns_asked(rt: &HostRuntime) -> Result<Option<u32>, Stop> {
-    let mut args = env::args(rt)?.skip(1);
-    let Some(word) = args.next() else {
-        return Ok(None);
-    };
-    if word.as_str() != "time" {
-        return Err(Stop::Usage);
-    }
-    match args.next() {
-        Some(turns) => Ok(Some(turns.parse()?)),
-        None => Err(Stop::Usage),
-    }
-}
-
-// Tells lists of levels apart.
-fn checksum(levels: &[u16]) -> u64 {
-    let mut sum: u64 = 0;
-    for level in levels {
-        sum = sum.wrapping_mul(1_000_003).wrapping_add(u64::from(*level));
-    }
-    sum
-}
 
 // Fits the entries again and again, and answers the nanoseconds of one fit.
 fn time_of<L: Loss>(
@@ -54,8 +31,7 @@ fn time_of<L: Loss>(
     for _ in 0..turns {
         fit(loss, entries, TOP, levels)?;
     }
-    let spent = start.elapsed(rt)?.as_nanos();
-    Ok(spent.checked_div(u128::from(turns)).unwrap_or(0))
+    Ok(nanos_each(start.elapsed(rt)?, u64::from(turns)))
 }
 
 // Fits the entries under a loss, and prints a line.
@@ -81,8 +57,8 @@ fn measure<L: Loss>(
 }
 
 fn measure_all(rt: &HostRuntime, sweep: &Sweep) -> Result<(), Stop> {
-    let readings = sweep.readings(rt.alloc())?;
-    let bands = sweep.bands(rt.alloc())?;
+    let readings = sweep.entries(rt.alloc())?;
+    let bands = sweep.entries(rt.alloc())?;
     measure(rt, "squares", &Squares, sweep, &readings)?;
     measure(rt, "absolute", &Absolute, sweep, &readings)?;
     measure(rt, "bands", &Bands, sweep, &bands)?;
@@ -96,12 +72,10 @@ fn measure_all(rt: &HostRuntime, sweep: &Sweep) -> Result<(), Stop> {
 }
 
 fn run(rt: &HostRuntime) -> Result<(), Stop> {
-    let asked = turns_asked(rt)?;
+    let words = env::args(rt)?.skip(1).collect::<Vec<String>>(rt.alloc())?;
+    let asked = turns_told(&words)?;
     for (points, often) in [(16, 64), (128, 8), (1_024, 1)] {
-        let turns = match asked {
-            Some(turns) => Some(turns.saturating_mul(often)),
-            None => None,
-        };
+        let turns = asked.map(|turns| turns.saturating_mul(often));
         for shape in [Shape::Random, Shape::Rising, Shape::Falling] {
             measure_all(
                 rt,
@@ -117,9 +91,9 @@ fn run(rt: &HostRuntime) -> Result<(), Stop> {
 }
 
 fn main(rt: HostRuntime) -> Result<(), Stop> {
-    let ended = run(&rt);
-    if let Err(Stop::Usage) = &ended {
-        let _ = eprintln!(rt; "usage: timing [time N]");
-    }
-    ended
+    run(&rt).inspect_err(|stop| {
+        if let Stop::Usage = stop {
+            let _ = eprintln!(rt; "{stop}");
+        }
+    })
 }

@@ -1,52 +1,28 @@
 // Why the program stops early.
 use fault::Fault;
 use fit::Misfit;
-use std::alloc::{AllocError, AllocFailed};
+use measure::Usage;
+use std::alloc::AllocError;
 use std::io;
-use std::num::ParseIntError;
+use thiserror::Error;
 
-#[derive(Debug, Drop)]
+#[derive(Debug, Drop, Error)]
 pub enum Stop {
-    // The words of the call are neither none nor `time N`.
+    #[error("usage: timing [time N]")]
     Usage,
-    Point(Fault),
-    Fit(Misfit),
-    Memory,
-    Io(io::Error),
+    #[error("a point is refused: {0}")]
+    Point(#[from] Fault),
+    #[error("a sweep cannot be fitted: {0:?}")]
+    Fit(#[from] Misfit),
+    #[error("out of memory")]
+    Memory(#[from(alloc)] AllocError),
+    #[error(transparent)]
+    Io(#[from] io::Error),
 }
 
-impl From<ParseIntError> for Stop {
-    fn from(_e: ParseIntError) -> Stop {
+// By hand, since `#[from]` would have a field, and that would be printed where the program ends.
+impl From<Usage> for Stop {
+    fn from(_e: Usage) -> Stop {
         Stop::Usage
-    }
-}
-
-impl From<Fault> for Stop {
-    fn from(fault: Fault) -> Stop {
-        Stop::Point(fault)
-    }
-}
-
-impl From<Misfit> for Stop {
-    fn from(misfit: Misfit) -> Stop {
-        Stop::Fit(misfit)
-    }
-}
-
-impl From<AllocError> for Stop {
-    fn from(_e: AllocError) -> Stop {
-        Stop::Memory
-    }
-}
-
-impl<T: Drop> From<AllocFailed<T>> for Stop {
-    fn from(_e: AllocFailed<T>) -> Stop {
-        Stop::Memory
-    }
-}
-
-impl From<io::Error> for Stop {
-    fn from(error: io::Error) -> Stop {
-        Stop::Io(error)
     }
 }

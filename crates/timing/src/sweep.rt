@@ -1,5 +1,8 @@
 // Sweeps made up from a fixed sequence of numbers, the same at each run.
+ghost use Rattle.std.specs.Prelude.{◌<◌};
+
 use crate::stop::Stop;
+use fault::Fault;
 use fit::Entry;
 use loss::{Band, Reading};
 use std::alloc::Global;
@@ -35,36 +38,42 @@ pub struct Sweep {
 struct Numbers(u64);
 
 impl Numbers {
-    fn next(&mut self) -> u64 {
+    // The next number, brought below an end.
+    fn below(&mut self, end: u32) -> u32
+        requires { 0 < end }
+        ensures { result < end }
+    {
         self.0 = self
             .0
             .wrapping_mul(6_364_136_223_846_793_005)
             .wrapping_add(1_442_695_040_888_963_407);
-        self.0 >> 33
-    }
-
-    // A number from 0 to 65,535.
-    fn level(&mut self) -> u32 {
-        (self.next() % 65_536) as u32
-    }
-
-    // A number from 0 to 4,095.
-    fn noise(&mut self) -> u32 {
-        (self.next() % 4_096) as u32
-    }
-
-    // A number from 1 to 1,000.
-    fn weight(&mut self) -> u32 {
-        (self.next() % 1_000) as u32 + 1
+        ((self.0 >> 33) % u64::from(end)) as u32
     }
 }
 
 // One point: the level read, how far a band goes up from it, and the weight.
 #[derive(Clone, Copy)]
-struct Made {
+pub struct Made {
     level: u32,
     reach: u32,
     weight: u32,
+}
+
+impl TryFrom<Made> for Reading {
+    type Error = Fault;
+
+    fn try_from(made: Made) -> Result<Reading, Fault> {
+        Reading::new(made.level, made.weight)
+    }
+}
+
+impl TryFrom<Made> for Band {
+    type Error = Fault;
+
+    fn try_from(made: Made) -> Result<Band, Fault> {
+        let high = made.level.saturating_add(made.reach).min(65_535);
+        Band::new(made.level, high, made.weight)
+    }
 }
 
 impl Sweep {
@@ -72,40 +81,30 @@ impl Sweep {
     fn made(&self, numbers: &mut Numbers, i: u32) -> Made {
         let rise = 65_536 / self.points.max(1);
         let level = match self.shape {
-            Shape::Random => numbers.level(),
-            Shape::Rising => rise.saturating_mul(i).saturating_add(numbers.noise()),
+            Shape::Random => numbers.below(65_536),
+            Shape::Rising => rise.saturating_mul(i).saturating_add(numbers.below(4_096)),
             Shape::Falling => {
                 let left = self.points.saturating_sub(i).saturating_sub(1);
-                rise.saturating_mul(left).saturating_add(numbers.noise())
+                rise.saturating_mul(left)
+                    .saturating_add(numbers.below(4_096))
             }
         };
         Made {
             level: level.min(65_535),
-            reach: numbers.noise(),
-            weight: numbers.weight(),
+            reach: numbers.below(4_096),
+            weight: numbers.below(1_000) + 1,
         }
     }
 
-    // The points as readings.
-    pub fn readings(&self, heap: Global) -> Result<Vec<Entry<Reading>>, Stop> {
+    // The points, as readings or as bands.
+    pub fn entries<P: TryFrom<Made, Error = Fault> + Drop>(
+        &self,
+        heap: Global,
+    ) -> Result<Vec<Entry<P>>, Stop> {
         let mut numbers = Numbers(u64::from(self.points));
         let mut entries = Vec::new(heap);
         for count in 0..self.points {
-            let made = self.made(&mut numbers, count);
-            let point = Reading::new(made.level, made.weight)?;
-            entries.push(Entry { count, point })?;
-        }
-        Ok(entries)
-    }
-
-    // The points as bands.
-    pub fn bands(&self, heap: Global) -> Result<Vec<Entry<Band>>, Stop> {
-        let mut numbers = Numbers(u64::from(self.points));
-        let mut entries = Vec::new(heap);
-        for count in 0..self.points {
-            let made = self.made(&mut numbers, count);
-            let high = made.level.saturating_add(made.reach).min(65_535);
-            let point = Band::new(made.level, high, made.weight)?;
+            let point = P::try_from(self.made(&mut numbers, count))?;
             entries.push(Entry { count, point })?;
         }
         Ok(entries)
