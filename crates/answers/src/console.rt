@@ -61,9 +61,8 @@ fn append_answer<P: LinePoint, L: Loss<Point = P> + Copy, H: Holder>(
     ensures law { (h : History P) → Kept bench.old (H.room holder.old) (H.listed holder.old) h → ((next : History P) × Entered L.cost (line_request P.told L.FIELDS loss.now number line.now) (answered L.slope bench.old.top (H.room holder.old) (record { clears = H.cleared; extends = H.extended }) (standing bench.old (H.listed holder.old) (H.memory holder.old))) h next × Kept bench.new (H.room holder.new) (H.listed holder.new) next) }
 {
     let mut answer = [0; ANSWER_BYTES];
-    if let Ok(written) = answer_line(bench, holder, loss, line, number, &mut answer) {
-        output.extend_from_slice(&answer[..written])?;
-    }
+    let written = answer_line(bench, holder, loss, line, number, &mut answer).unwrap();
+    output.extend_from_slice(&answer[..written])?;
     Ok(())
 }
 
@@ -147,9 +146,7 @@ fn append_heading(line: &[u8], output: &mut Vec<u8>) -> Result<Option<Heading>, 
     ensures heading { IfOk result (λ h. h ≡ result_ok (heading_told 1 line.now)) }
 {
     let mut answer = [0; ANSWER_BYTES];
-    let Ok(opening) = answer_heading(line, 1, &mut answer) else {
-        return Ok(None);
-    };
+    let opening = answer_heading(line, 1, &mut answer).unwrap();
     output.extend_from_slice(&answer[..opening.written])?;
     Ok(opening.heading)
 }

@@ -86,7 +86,8 @@ pub fn answer_heading(bytes: &[u8], number: u32, answer: &mut [u8]) -> Result<Op
 }
 
 // Bench, holder and loss stay three parameters: a struct that owned them would take them from callers who only lend
-// them, and one that borrowed them would not say what they are afterwards.
+// them, and one that borrowed them would not say what they are afterwards. The clauses `top`, `room` and `places` are
+// written at each call: no invariant can say that a value stays.
 
 // Carries a line out.
 fn obey<P: LinePoint, L: Loss<Point = P> + Copy, H: Holder>(

@@ -1,6 +1,7 @@
 // An answer as the line of text that it is sent as.
-ghost use Rattle.std.specs.Prelude.{◌≡◌, ◌+◌, ◌≤◌, ◌++◌, length};
-ghost use Rattle.answers.specs.Replies.{word, refusal_words, answer_text};
+ghost use Rattle.std.specs.Prelude.{◌≡◌, ◌+◌, ◌≤◌, ◌∷◌, ◌++◌, length, decimal};
+ghost use Rattle.fault.specs.Texts.{fault_text};
+ghost use Rattle.answers.specs.Replies.{answer_text};
 
 use arrayvec::ArrayString;
 use bench::Answer;
@@ -32,8 +33,8 @@ pub fn answer_text(answer: &Answer) -> ArrayString<ANSWER_BYTES>
 
 // A space and a number.
 fn push_word(text: &mut ArrayString<ANSWER_BYTES>, n: u32)
-    requires { length text.old.bytes + length (word n) ≤ 32 }
-    ensures { text.new.bytes ≡ text.old.bytes ++ word n }
+    requires { length text.old.bytes + length (32 ∷ decimal n) ≤ 32 }
+    ensures { text.new.bytes ≡ text.old.bytes ++ 32 ∷ decimal n }
 {
     text.push(' ');
     text.push_str(Buffer::new().format(n));
@@ -42,7 +43,7 @@ fn push_word(text: &mut ArrayString<ANSWER_BYTES>, n: u32)
 // What a refusal says, behind two bytes: the question's layer and number, and where in the text it was asked.
 fn push_refusal(text: &mut ArrayString<ANSWER_BYTES>, fault: Fault)
     requires { length text.old.bytes ≤ 2 }
-    ensures text { text.new.bytes ≡ text.old.bytes ++ refusal_words fault }
+    ensures text { text.new.bytes ≡ text.old.bytes ++ 32 ∷ fault_text fault }
     ensures short { length text.new.bytes ≤ 29 }
 {
     push_word(text, u32::from(fault.question.layer()));

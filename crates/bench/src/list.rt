@@ -61,9 +61,8 @@ impl<'a, P: Copy> PointList<'a, P> {
         ensures memory { self.new.entries.now ≡ memory_with entry (take self.old.held self.old.entries.now) self.old.entries.now }
         ensures places { length self.new.entries.now ≡ length self.old.entries.now }
     {
-        let held = self.held;
-        insert(self.entries, held, at, entry);
-        self.held = held + 1;
+        insert(self.entries, self.held, at, entry);
+        self.held += 1;
     }
 
     // One point less.
@@ -74,9 +73,8 @@ impl<'a, P: Copy> PointList<'a, P> {
         ensures memory { self.new.entries.now ≡ remove (take self.old.held self.old.entries.now) at ++ (take 1 (drop at self.old.entries.now) ++ drop self.old.held self.old.entries.now) }
         ensures places { length self.new.entries.now ≡ length self.old.entries.now }
     {
-        let held = self.held;
-        remove(self.entries, held, at);
-        self.held = held - 1;
+        remove(self.entries, self.held, at);
+        self.held -= 1;
     }
 }
 

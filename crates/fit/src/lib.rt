@@ -189,8 +189,8 @@ impl Block {
     }
 }
 
-// The blocks so far, the newest at `depth - 1`.
-// A rule of the project: no heap, and the array of records is the stack, of which each pooling changes one in place.
+// The blocks so far, the newest at `depth - 1`. No ArrayVec by a rule of the project: the stack is a plain array of records,
+// of which a pooling changes one.
 #[derive(Clone, Copy)]
 struct Stack {
     blocks: [Block; 1024],

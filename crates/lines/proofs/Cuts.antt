@@ -1,7 +1,6 @@
 -- Texts and their pieces. Assumes nothing.
-use Rattle.std.proofs.Common.{◌≡◌, ℕ, suc, ◌+◌, ◌<◌, ◌≤◌, Bool, true, false, not, cond, eqb, ltb, List, [], ◌∷◌, ◌++◌, length, take, drop, Some, None, Option, MatchOption, is_some, unwrap_or, sym, refl, ap, ◌∙◌, arith}
+use Rattle.std.proofs.Common.{◌≡◌, ℕ, suc, ◌+◌, ◌<◌, ◌≤◌, Bool, true, false, not, cond, eqb, ltb, List, [], ◌∷◌, length, take, drop, Some, None, Option, MatchOption, is_some, unwrap_or, sym, refl, ap, ◌∙◌, arith}
 use Rattle.std.specs.List.{position_or_len, sum_by}
-use Rattle.std.proofs.lemmas.List.{length-append, take_at}
 use Rattle.std.proofs.lemmas.List.Recursion.{is_position_or_len}
 use Rattle.std.proofs.lemmas.List.Sums.{prefix_len-le-length, sum_by-cons}
 use Rattle.std.proofs.lemmas.Bool.{false≢true, ltb-false}
@@ -36,13 +35,6 @@ pieces_step s b bs = step_at (eqb b s) s b bs
 pub pieces_first : (s : ℕ) (bs : List ℕ) → 0 < length bs → pieces s bs ≡ take (before s bs) bs ∷ pieces s (drop (suc (before s bs)) bs)
 pieces_first s [] h = absurd (omega (arith, h))
 pieces_first s (b ∷ bs) h = pieces_step s b bs
-
--- the front of a text that as many bytes were written of
-pub front_within : (n : ℕ) (front rest all : List ℕ) → n ≡ length front → all ≡ front ++ rest → n ≤ length all
-front_within n front rest all e f = omega (arith, e, ap length f, length-append front rest)
-
-pub front_taken : (n : ℕ) (front rest all : List ℕ) → n ≡ length front → all ≡ front ++ rest → take n all ≡ front
-front_taken n front rest all e f = ap (take n) f ∙ take_at front rest n (sym e)
 
 -- the first line of an input, and the lines behind it
 pub lines_first : (bs : List ℕ) → lines_of bs ≡ take (before 10 bs) bs ∷ pieces 10 (drop (suc (before 10 bs)) bs)

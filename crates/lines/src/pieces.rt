@@ -17,7 +17,7 @@ pub fn split_first(text: &[u8], end: u8) -> (&[u8], &[u8])
 }
 
 // The pieces of a text, one after the other.
-#[derive(Clone, Drop)]
+#[derive(Drop)]
 pub struct Pieces<'a> {
     rest: &'a [u8],
     end: u8,

@@ -1,4 +1,4 @@
--- Checksums of lists of numbers.
+-- Checksums of lists of numbers. Assumes nothing.
 use Rattle.std.specs.Prelude.{◌≡◌, ℕ, ◌+◌, ◌*◌, ◌%◌, ◌^◌}
 
 -- a number that R takes to a value is mixed into a sum of 64 bits

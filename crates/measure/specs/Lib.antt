@@ -1,2 +1,3 @@
 pub mod Calls
 pub mod Checksums
+pub mod Orders

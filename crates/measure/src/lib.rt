@@ -1,12 +1,14 @@
 // What the programs that take time share: how they are called, how they tell outputs apart, and how time is told.
 #![tactic(auto)]
 
-ghost use Rattle.std.specs.Prelude.{◌≡◌, ◌/◌};
+ghost use Rattle.std.specs.Prelude.{◌≡◌, ◌/◌, Some};
 ghost use Rattle.std.specs.List.{FoldsTo};
 ghost use Rattle.std.specs.Duration.{as_nanos};
 ghost use Rattle.measure.specs.Checksums.{Mixes};
 ghost use Rattle.measure.specs.Calls.{TurnsTold};
+ghost use Rattle.measure.specs.Orders.{order_name};
 
+use std::fmt;
 use std::time::Duration;
 use thiserror::Error;
 
@@ -14,6 +16,26 @@ use thiserror::Error;
 #[derive(Clone, Copy, Debug, Error)]
 #[error("usage: [time N]")]
 pub struct Usage;
+
+// How made-up numbers follow one another.
+#[derive(Clone, Copy, PartialEq, Eq, Debug)]
+pub enum Order {
+    Random,
+    Rising,
+    Falling,
+}
+
+impl fmt::Display for Order {
+    ghost output = { λ o. Some (order_name o) };
+
+    fn fmt<W: fmt::Write>(&self, f: &mut fmt::Formatter<W>) -> fmt::Result {
+        f.write_str(match self {
+            Order::Random => "random",
+            Order::Rising => "rising",
+            Order::Falling => "falling",
+        })
+    }
+}
 
 // How often a program is to run what it times, by the words of its call; with no word it takes no time.
 pub fn turns_told(words: &[String]) -> Result<Option<u32>, Usage>

@@ -8,10 +8,10 @@ mod stop;
 use bench::Bench;
 use fit::Entry;
 use loss::{Reading, Squares};
-use measure::{checksum, nanos_each, turns_told};
+use measure::{Order, checksum, nanos_each, turns_told};
 use std::alloc::Global;
+use std::env;
 use std::time::Instant;
-use std::{env, fmt};
 use stop::Stop;
 use table::text::TextTable;
 
@@ -19,32 +19,12 @@ const POINTS: u32 = 1_024;
 
 const CONVERSIONS: u32 = 1_000;
 
-// The order in which counts are added.
-#[derive(Clone, Copy)]
-enum Order {
-    Rising,
-    Falling,
-    Random,
-}
-
-impl fmt::Display for Order {
-    fn fmt<W: fmt::Write>(&self, f: &mut fmt::Formatter<W>) -> fmt::Result {
-        f.write_str(match self {
-            Order::Rising => "rising",
-            Order::Falling => "falling",
-            Order::Random => "random",
-        })
-    }
-}
-
-impl Order {
-    // The i-th count. The factor is odd, so that no count comes twice.
-    fn count(self, i: u32) -> u32 {
-        match self {
-            Order::Rising => i.wrapping_mul(16),
-            Order::Falling => POINTS.wrapping_sub(i).wrapping_mul(16),
-            Order::Random => i.wrapping_mul(2_654_435_761) & 0xff_ffff,
-        }
+// The i-th count in an order. The factor is odd, so that no count comes twice.
+fn count(order: Order, i: u32) -> u32 {
+    match order {
+        Order::Rising => i.wrapping_mul(16),
+        Order::Falling => POINTS.wrapping_sub(i).wrapping_mul(16),
+        Order::Random => i.wrapping_mul(2_654_435_761) & 0xff_ffff,
     }
 }
 
@@ -57,7 +37,7 @@ fn reading(i: u32) -> Result<Reading, Stop> {
 
 fn add_all(bench: &mut Bench<'_, Reading>, order: Order) -> Result<(), Stop> {
     for i in 0..POINTS {
-        bench.add(order.count(i), reading(i)?)?;
+        bench.add(count(order, i), reading(i)?)?;
     }
     Ok(())
 }

@@ -7,11 +7,11 @@ mod sweep;
 
 use fit::{Entry, fit};
 use loss::{Absolute, Bands, Loss, PullLimit, Squares};
-use measure::{checksum, nanos_each, turns_told};
+use measure::{Order, checksum, nanos_each, turns_told};
 use std::env;
 use std::time::Instant;
 use stop::Stop;
-use sweep::{Shape, Sweep};
+use sweep::Sweep;
 
 // The greatest level.
 const TOP: u16 = 65_535;
@@ -76,7 +76,7 @@ fn run(rt: &HostRuntime) -> Result<(), Stop> {
     let asked = turns_told(&words)?;
     for (points, often) in [(16, 64), (128, 8), (1_024, 1)] {
         let turns = asked.map(|turns| turns.saturating_mul(often));
-        for shape in [Shape::Random, Shape::Rising, Shape::Falling] {
+        for shape in [Order::Random, Order::Rising, Order::Falling] {
             measure_all(
                 rt,
                 &Sweep {

@@ -5,30 +5,13 @@ use crate::stop::Stop;
 use fault::Fault;
 use fit::Entry;
 use loss::{Band, Reading};
+use measure::Order;
 use std::alloc::Global;
-use std::fmt;
-
-#[derive(Clone, Copy)]
-pub enum Shape {
-    Random,
-    Rising,
-    Falling,
-}
-
-impl fmt::Display for Shape {
-    fn fmt<W: fmt::Write>(&self, f: &mut fmt::Formatter<W>) -> fmt::Result {
-        f.write_str(match self {
-            Shape::Random => "random",
-            Shape::Rising => "rising",
-            Shape::Falling => "falling",
-        })
-    }
-}
 
 // What a sweep is made from, and how often it is fitted where time is taken.
 #[derive(Clone, Copy)]
 pub struct Sweep {
-    pub shape: Shape,
+    pub shape: Order,
     pub points: u32,
     pub turns: Option<u32>,
 }
@@ -81,9 +64,9 @@ impl Sweep {
     fn made(&self, numbers: &mut Numbers, i: u32) -> Made {
         let rise = 65_536 / self.points.max(1);
         let level = match self.shape {
-            Shape::Random => numbers.below(65_536),
-            Shape::Rising => rise.saturating_mul(i).saturating_add(numbers.below(4_096)),
-            Shape::Falling => {
+            Order::Random => numbers.below(65_536),
+            Order::Rising => rise.saturating_mul(i).saturating_add(numbers.below(4_096)),
+            Order::Falling => {
                 let left = self.points.saturating_sub(i).saturating_sub(1);
                 rise.saturating_mul(left)
                     .saturating_add(numbers.below(4_096))

@@ -11,6 +11,7 @@ use crate::state::Bench;
 use loss::Loss;
 use table::holder::Holder;
 
+// The clauses `top`, `room` and `places` are written at each call: no invariant can say that a value stays.
 impl<'a, P: Copy> Bench<'a, P> {
     // Makes one call.
     pub fn serve<L: Loss<Point = P>, H: Holder>(

@@ -16,6 +16,7 @@ use loss::Loss;
 use table::convert::convert;
 use table::holder::{Holder, MAX_COUNT};
 
+// The clauses `top`, `room` and `places` are written at each call: no invariant can say that a value stays.
 impl<'a, P: Copy> Bench<'a, P> {
     // A bench with no points, whatever stands in the memory.
     pub fn open(memory: &'a mut [Entry<P>], top: u16) -> Bench<'a, P>

@@ -14,7 +14,7 @@ pub fn row_at(place: &[u8]) -> Row
     ensures { result ≡ row_read place.now }
 {
     let [c0, c1, c2, c3, l0, l1, ..] = place else {
-        return (0, 0);
+        unreachable!();
     };
     (
         u32::from_le_bytes([*c0, *c1, *c2, *c3]),
@@ -46,7 +46,7 @@ pub fn body_right(bytes: &[u8], block: &Block<'_>) -> bool
     ensures { result ≡ body_right block.now.number bytes.now block.now.rows.now }
 {
     let [m0, m1, count, zero, n0, n1, z0, z1, rest @ ..] = bytes else {
-        return false;
+        unreachable!();
     };
     let head = [*m0, *m1, *count, *zero, *n0, *n1, *z0, *z1];
     head == block.head() && &rest[..500] == block.places().as_slice()
