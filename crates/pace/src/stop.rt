@@ -12,14 +12,20 @@ pub enum Stop {
     #[error("refused: {0}")]
     Refused(#[from] Fault),
     #[error("out of memory")]
-    Memory(#[from] AllocError),
+    Memory,
     #[error(transparent)]
     Io(#[from] io::Error),
 }
 
-// By hand, since `#[from]` would have a field, and that would be printed where the program ends.
+// By hand, with those below, since `#[from]` would have a field, and that would be printed where the program ends.
 impl From<Usage> for Stop {
     fn from(_e: Usage) -> Stop {
         Stop::Usage
+    }
+}
+
+impl From<AllocError> for Stop {
+    fn from(_e: AllocError) -> Stop {
+        Stop::Memory
     }
 }

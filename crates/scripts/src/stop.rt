@@ -7,7 +7,14 @@ use thiserror::Error;
 #[derive(Debug, Drop, Error)]
 pub enum Stop {
     #[error("out of memory")]
-    Memory(#[from(alloc)] AllocError),
+    Memory,
     #[error(transparent)]
     Io(#[from] io::Error),
+}
+
+// By hand, since `#[from]` would have a field, and that would be printed where the program ends.
+impl From<AllocError> for Stop {
+    fn from(_e: AllocError) -> Stop {
+        Stop::Memory
+    }
 }

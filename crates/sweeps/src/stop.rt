@@ -1,7 +1,7 @@
 // Why the program stops early.
 use fault::Fault;
 use fit::Misfit;
-use std::alloc::AllocError;
+use std::alloc::{AllocError, AllocFailed};
 use std::io;
 use std::num::ParseIntError;
 use thiserror::Error;
@@ -17,15 +17,27 @@ pub enum Stop {
     #[error("{misfit}", misfit = told(.0))]
     Fit(#[from] Misfit),
     #[error("out of memory")]
-    Memory(#[from(alloc)] AllocError),
+    Memory,
     #[error(transparent)]
     Io(#[from] io::Error),
 }
 
-// By hand, since `#[from]` would have a field, and that would be printed where the program ends.
+// By hand, with those below, since `#[from]` would have a field, and that would be printed where the program ends.
 impl From<ParseIntError> for Stop {
     fn from(_e: ParseIntError) -> Stop {
         Stop::Number
+    }
+}
+
+impl From<AllocError> for Stop {
+    fn from(_e: AllocError) -> Stop {
+        Stop::Memory
+    }
+}
+
+impl<T: Drop> From<AllocFailed<T>> for Stop {
+    fn from(_e: AllocFailed<T>) -> Stop {
+        Stop::Memory
     }
 }
 

@@ -2,7 +2,7 @@
 use fault::Fault;
 use fit::Misfit;
 use measure::Usage;
-use std::alloc::AllocError;
+use std::alloc::{AllocError, AllocFailed};
 use std::io;
 use thiserror::Error;
 
@@ -15,14 +15,26 @@ pub enum Stop {
     #[error("a sweep cannot be fitted: {0:?}")]
     Fit(#[from] Misfit),
     #[error("out of memory")]
-    Memory(#[from(alloc)] AllocError),
+    Memory,
     #[error(transparent)]
     Io(#[from] io::Error),
 }
 
-// By hand, since `#[from]` would have a field, and that would be printed where the program ends.
+// By hand, with those below, since `#[from]` would have a field, and that would be printed where the program ends.
 impl From<Usage> for Stop {
     fn from(_e: Usage) -> Stop {
         Stop::Usage
+    }
+}
+
+impl From<AllocError> for Stop {
+    fn from(_e: AllocError) -> Stop {
+        Stop::Memory
+    }
+}
+
+impl<T: Drop> From<AllocFailed<T>> for Stop {
+    fn from(_e: AllocFailed<T>) -> Stop {
+        Stop::Memory
     }
 }
