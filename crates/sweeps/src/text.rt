@@ -52,14 +52,22 @@ impl<'a> TryFrom<&'a str> for Sweep<'a> {
     }
 }
 
-// So many numbers, with strokes between.
+// So many numbers, with strokes between. That there are so many is asked before what each is.
 fn numbers<const N: usize>(word: &str) -> Result<[u32; N], Stop> {
-    if word.split('/').count() != N {
+    let mut parts = word.split('/');
+    let mut numbers = [0; N];
+    let mut numeric = true;
+    for number in &mut numbers {
+        match parts.next().ok_or(Stop::Line)?.parse() {
+            Ok(n) => *number = n,
+            Err(_) => numeric = false,
+        }
+    }
+    if parts.next().is_some() {
         return Err(Stop::Line);
     }
-    let mut numbers = [0; N];
-    for (number, part) in numbers.iter_mut().zip(word.split('/')) {
-        *number = part.parse()?;
+    if !numeric {
+        return Err(Stop::Number);
     }
     Ok(numbers)
 }
