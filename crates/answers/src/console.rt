@@ -20,10 +20,11 @@ use bench::{Answer, Bench};
 use fault::{Fault, Question};
 use fit::Entry;
 use lines::headings::Heading;
+use lines::losses::LineLoss;
 use lines::pieces::{Pieces, split_first};
 use lines::points::LinePoint;
 use lines::verbs::LossName;
-use loss::{Absolute, Band, Bands, Loss, Reading, Squares};
+use loss::{Absolute, Band, Bands, Reading, Squares};
 use std::alloc::{AllocError, Global};
 use table::holder::Holder;
 use table::text::TextTable;
@@ -45,7 +46,7 @@ struct Input<'a> {
 }
 
 // Carries a line out and puts its answer behind the output.
-fn append_answer<P: LinePoint, L: Loss<Point = P> + Copy, H: Holder>(
+fn append_answer<P: LinePoint, L: LineLoss<Point = P> + Copy, H: Holder>(
     bench: &mut Bench<'_, P>,
     holder: &mut H,
     loss: &L,
@@ -53,12 +54,12 @@ fn append_answer<P: LinePoint, L: Loss<Point = P> + Copy, H: Holder>(
     number: u32,
     output: &mut Vec<u8>,
 ) -> Result<(), AllocError>
-    ensures output { OnOk result (output.new.items ≡ output.old.items ++ answer_text (line_answer P.told L.slope L.FIELDS loss.now bench.old.top (H.room holder.old) (record { clears = H.cleared; extends = H.extended }) (standing bench.old (H.listed holder.old) (H.memory holder.old)) number line.now)) }
-    ensures after { standing bench.new (H.listed holder.new) (H.memory holder.new) ≡ line_after P.told L.slope L.FIELDS loss.now bench.old.top (H.room holder.old) (record { clears = H.cleared; extends = H.extended }) (standing bench.old (H.listed holder.old) (H.memory holder.old)) number line.now }
+    ensures output { OnOk result (output.new.items ≡ output.old.items ++ answer_text (line_answer P.told L.slope L.LINE_FIELDS loss.now bench.old.top (H.room holder.old) (record { clears = H.cleared; extends = H.extended }) (standing bench.old (H.listed holder.old) (H.memory holder.old)) number line.now)) }
+    ensures after { standing bench.new (H.listed holder.new) (H.memory holder.new) ≡ line_after P.told L.slope L.LINE_FIELDS loss.now bench.old.top (H.room holder.old) (record { clears = H.cleared; extends = H.extended }) (standing bench.old (H.listed holder.old) (H.memory holder.old)) number line.now }
     ensures top { bench.new.top ≡ bench.old.top }
     ensures room { H.room holder.new ≡ H.room holder.old }
     ensures places { places_of (memory_of bench.new) ≡ places_of (memory_of bench.old) }
-    ensures law { (h : History P) → Kept bench.old (H.room holder.old) (H.listed holder.old) h → ((next : History P) × Entered L.cost (line_request P.told L.FIELDS loss.now number line.now) (answered L.slope bench.old.top (H.room holder.old) (record { clears = H.cleared; extends = H.extended }) (standing bench.old (H.listed holder.old) (H.memory holder.old))) h next × Kept bench.new (H.room holder.new) (H.listed holder.new) next) }
+    ensures law { (h : History P) → Kept bench.old (H.room holder.old) (H.listed holder.old) h → ((next : History P) × Entered L.cost (line_request P.told L.LINE_FIELDS loss.now number line.now) (answered L.slope bench.old.top (H.room holder.old) (record { clears = H.cleared; extends = H.extended }) (standing bench.old (H.listed holder.old) (H.memory holder.old))) h next × Kept bench.new (H.room holder.new) (H.listed holder.new) next) }
 {
     let mut answer = [0; ANSWER_BYTES];
     let written = answer_line(bench, holder, loss, line, number, &mut answer).unwrap();
@@ -67,16 +68,16 @@ fn append_answer<P: LinePoint, L: Loss<Point = P> + Copy, H: Holder>(
 }
 
 // Answers lines that are numbered from 2 on.
-fn answer_lines<P: LinePoint, L: Loss<Point = P> + Copy, H: Holder>(
+fn answer_lines<P: LinePoint, L: LineLoss<Point = P> + Copy, H: Holder>(
     bench: &mut Bench<'_, P>,
     holder: &mut H,
     loss: &L,
     lines: Input<'_>,
     output: &mut Vec<u8>,
 ) -> Result<(), AllocError>
-    ensures output { OnOk result (output.new.items ≡ output.old.items ++ flat_map answer_text (answers P.told L.cost L.slope L.FIELDS loss.now bench.old.top (H.room holder.old) (record { clears = H.cleared; extends = H.extended }) (standing bench.old (H.listed holder.old) (H.memory holder.old)) 2 (pieces 10 lines.entry.bytes.now))) }
-    ensures after { OnOk result (standing bench.new (H.listed holder.new) (H.memory holder.new) ≡ after P.told L.cost L.slope L.FIELDS loss.now bench.old.top (H.room holder.old) (record { clears = H.cleared; extends = H.extended }) (standing bench.old (H.listed holder.old) (H.memory holder.old)) 2 (pieces 10 lines.entry.bytes.now)) }
-    ensures law { OnOk result ((h : History P) → Kept bench.old (H.room holder.old) (H.listed holder.old) h → ((end : History P) × EnteredAll P.told L.cost L.slope L.FIELDS loss.now bench.old.top (H.room holder.old) (record { clears = H.cleared; extends = H.extended }) (standing bench.old (H.listed holder.old) (H.memory holder.old)) 2 (pieces 10 lines.entry.bytes.now) h end × Kept bench.new (H.room holder.new) (H.listed holder.new) end)) }
+    ensures output { OnOk result (output.new.items ≡ output.old.items ++ flat_map answer_text (answers P.told L.cost L.slope L.LINE_FIELDS loss.now bench.old.top (H.room holder.old) (record { clears = H.cleared; extends = H.extended }) (standing bench.old (H.listed holder.old) (H.memory holder.old)) 2 (pieces 10 lines.entry.bytes.now))) }
+    ensures after { OnOk result (standing bench.new (H.listed holder.new) (H.memory holder.new) ≡ after P.told L.cost L.slope L.LINE_FIELDS loss.now bench.old.top (H.room holder.old) (record { clears = H.cleared; extends = H.extended }) (standing bench.old (H.listed holder.old) (H.memory holder.old)) 2 (pieces 10 lines.entry.bytes.now)) }
+    ensures law { OnOk result ((h : History P) → Kept bench.old (H.room holder.old) (H.listed holder.old) h → ((end : History P) × EnteredAll P.told L.cost L.slope L.LINE_FIELDS loss.now bench.old.top (H.room holder.old) (record { clears = H.cleared; extends = H.extended }) (standing bench.old (H.listed holder.old) (H.memory holder.old)) 2 (pieces 10 lines.entry.bytes.now) h end × Kept bench.new (H.room holder.new) (H.listed holder.new) end)) }
     ensures top { bench.new.top ≡ bench.old.top }
     ensures room { H.room holder.new ≡ H.room holder.old }
     ensures places { places_of (memory_of bench.new) ≡ places_of (memory_of bench.old) }
@@ -99,7 +100,7 @@ fn places<P: Copy>(unheld: P) -> [Entry<P>; PLACES]
 }
 
 // Answers the lines behind the first with a new bench and a new table, and writes the rows of the table.
-fn answer_session<P: LinePoint, L: Loss<Point = P> + Copy>(
+fn answer_session<P: LinePoint, L: LineLoss<Point = P> + Copy>(
     loss: &L,
     top: u16,
     memory: &mut [Entry<P>],
@@ -107,8 +108,8 @@ fn answer_session<P: LinePoint, L: Loss<Point = P> + Copy>(
     output: &mut Vec<u8>,
 ) -> Result<(), AllocError>
     requires { length memory.old ≡ 1024 }
-    ensures output { OnOk result (output.new.items ≡ output.old.items ++ session_text P.told L.cost L.slope L.FIELDS loss.now top memory.old blank_bytes (pieces 10 lines.entry.bytes.now)) }
-    ensures law { OnOk result (SessionKeeps P.told L.cost L.slope L.FIELDS loss.now top memory.old blank_bytes (pieces 10 lines.entry.bytes.now)) }
+    ensures output { OnOk result (output.new.items ≡ output.old.items ++ session_text P.told L.cost L.slope L.LINE_FIELDS loss.now top memory.old blank_bytes (pieces 10 lines.entry.bytes.now)) }
+    ensures law { OnOk result (SessionKeeps P.told L.cost L.slope L.LINE_FIELDS loss.now top memory.old blank_bytes (pieces 10 lines.entry.bytes.now)) }
 {
     let mut bytes = [0; TABLE_BYTES];
     let mut bench = Bench::open(memory, top);

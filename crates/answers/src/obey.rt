@@ -13,9 +13,9 @@ use crate::reply::{ANSWER_BYTES, answer_text};
 use bench::{Answer, Bench, Request};
 use fault::{Fault, Question};
 use lines::headings::{Heading, read_heading};
+use lines::losses::LineLoss;
 use lines::points::LinePoint;
 use lines::requests::read_request;
-use loss::Loss;
 use table::holder::Holder;
 
 // Where the refusal of a call stands in its line.
@@ -90,19 +90,19 @@ pub fn answer_heading(bytes: &[u8], number: u32, answer: &mut [u8]) -> Result<Op
 // written at each call: no invariant can say that a value stays.
 
 // Carries a line out.
-fn obey<P: LinePoint, L: Loss<Point = P> + Copy, H: Holder>(
+fn obey<P: LinePoint, L: LineLoss<Point = P> + Copy, H: Holder>(
     bench: &mut Bench<'_, P>,
     holder: &mut H,
     loss: &L,
     bytes: &[u8],
     number: u32,
 ) -> Answer
-    ensures answer { result ≡ line_answer P.told L.slope L.FIELDS loss.now bench.old.top (H.room holder.old) (record { clears = H.cleared; extends = H.extended }) (standing bench.old (H.listed holder.old) (H.memory holder.old)) number bytes.now }
-    ensures after { standing bench.new (H.listed holder.new) (H.memory holder.new) ≡ line_after P.told L.slope L.FIELDS loss.now bench.old.top (H.room holder.old) (record { clears = H.cleared; extends = H.extended }) (standing bench.old (H.listed holder.old) (H.memory holder.old)) number bytes.now }
+    ensures answer { result ≡ line_answer P.told L.slope L.LINE_FIELDS loss.now bench.old.top (H.room holder.old) (record { clears = H.cleared; extends = H.extended }) (standing bench.old (H.listed holder.old) (H.memory holder.old)) number bytes.now }
+    ensures after { standing bench.new (H.listed holder.new) (H.memory holder.new) ≡ line_after P.told L.slope L.LINE_FIELDS loss.now bench.old.top (H.room holder.old) (record { clears = H.cleared; extends = H.extended }) (standing bench.old (H.listed holder.old) (H.memory holder.old)) number bytes.now }
     ensures top { bench.new.top ≡ bench.old.top }
     ensures room { H.room holder.new ≡ H.room holder.old }
     ensures places { places_of (memory_of bench.new) ≡ places_of (memory_of bench.old) }
-    ensures law { (h : History P) → Kept bench.old (H.room holder.old) (H.listed holder.old) h → ((after : History P) × Entered L.cost (line_request P.told L.FIELDS loss.now number bytes.now) (answered L.slope bench.old.top (H.room holder.old) (record { clears = H.cleared; extends = H.extended }) (standing bench.old (H.listed holder.old) (H.memory holder.old))) h after × Kept bench.new (H.room holder.new) (H.listed holder.new) after) }
+    ensures law { (h : History P) → Kept bench.old (H.room holder.old) (H.listed holder.old) h → ((after : History P) × Entered L.cost (line_request P.told L.LINE_FIELDS loss.now number bytes.now) (answered L.slope bench.old.top (H.room holder.old) (record { clears = H.cleared; extends = H.extended }) (standing bench.old (H.listed holder.old) (H.memory holder.old))) h after × Kept bench.new (H.room holder.new) (H.listed holder.new) after) }
 {
     match read_request(loss, bytes, number) {
         Ok(request) => answer_at(bench.serve(holder, &request), number, column(&request)),
@@ -112,7 +112,7 @@ fn obey<P: LinePoint, L: Loss<Point = P> + Copy, H: Holder>(
 
 // Carries a line behind the first out, writes its answer and says how many bytes that took. The bytes behind the
 // answer stay as they are. Where the memory is too small nothing is carried out.
-pub fn answer_line<P: LinePoint, L: Loss<Point = P> + Copy, H: Holder>(
+pub fn answer_line<P: LinePoint, L: LineLoss<Point = P> + Copy, H: Holder>(
     bench: &mut Bench<'_, P>,
     holder: &mut H,
     loss: &L,
@@ -120,13 +120,13 @@ pub fn answer_line<P: LinePoint, L: Loss<Point = P> + Copy, H: Holder>(
     number: u32,
     answer: &mut [u8],
 ) -> Result<usize, Fault>
-    ensures value { result ≡ roomy number (length answer.old) (length (answer_text (line_answer P.told L.slope L.FIELDS loss.now bench.old.top (H.room holder.old) (record { clears = H.cleared; extends = H.extended }) (standing bench.old (H.listed holder.old) (H.memory holder.old)) number bytes.now))) }
-    ensures text { answer.new ≡ with_answer answer.old (line_answer P.told L.slope L.FIELDS loss.now bench.old.top (H.room holder.old) (record { clears = H.cleared; extends = H.extended }) (standing bench.old (H.listed holder.old) (H.memory holder.old)) number bytes.now) }
-    ensures after { standing bench.new (H.listed holder.new) (H.memory holder.new) ≡ after_request P.told L.slope L.FIELDS loss.now bench.old.top (H.room holder.old) (record { clears = H.cleared; extends = H.extended }) (standing bench.old (H.listed holder.old) (H.memory holder.old)) (roomy_request P.told L.slope L.FIELDS loss.now bench.old.top (H.room holder.old) (record { clears = H.cleared; extends = H.extended }) (length answer.old) number bytes.now) }
+    ensures value { result ≡ roomy number (length answer.old) (length (answer_text (line_answer P.told L.slope L.LINE_FIELDS loss.now bench.old.top (H.room holder.old) (record { clears = H.cleared; extends = H.extended }) (standing bench.old (H.listed holder.old) (H.memory holder.old)) number bytes.now))) }
+    ensures text { answer.new ≡ with_answer answer.old (line_answer P.told L.slope L.LINE_FIELDS loss.now bench.old.top (H.room holder.old) (record { clears = H.cleared; extends = H.extended }) (standing bench.old (H.listed holder.old) (H.memory holder.old)) number bytes.now) }
+    ensures after { standing bench.new (H.listed holder.new) (H.memory holder.new) ≡ after_request P.told L.slope L.LINE_FIELDS loss.now bench.old.top (H.room holder.old) (record { clears = H.cleared; extends = H.extended }) (standing bench.old (H.listed holder.old) (H.memory holder.old)) (roomy_request P.told L.slope L.LINE_FIELDS loss.now bench.old.top (H.room holder.old) (record { clears = H.cleared; extends = H.extended }) (length answer.old) number bytes.now) }
     ensures top { bench.new.top ≡ bench.old.top }
     ensures room { H.room holder.new ≡ H.room holder.old }
     ensures places { places_of (memory_of bench.new) ≡ places_of (memory_of bench.old) }
-    ensures law { (h : History P) → Kept bench.old (H.room holder.old) (H.listed holder.old) h → ((after : History P) × Entered L.cost (roomy_request P.told L.slope L.FIELDS loss.now bench.old.top (H.room holder.old) (record { clears = H.cleared; extends = H.extended }) (length answer.old) number bytes.now) (answered L.slope bench.old.top (H.room holder.old) (record { clears = H.cleared; extends = H.extended }) (standing bench.old (H.listed holder.old) (H.memory holder.old))) h after × Kept bench.new (H.room holder.new) (H.listed holder.new) after) }
+    ensures law { (h : History P) → Kept bench.old (H.room holder.old) (H.listed holder.old) h → ((after : History P) × Entered L.cost (roomy_request P.told L.slope L.LINE_FIELDS loss.now bench.old.top (H.room holder.old) (record { clears = H.cleared; extends = H.extended }) (length answer.old) number bytes.now) (answered L.slope bench.old.top (H.room holder.old) (record { clears = H.cleared; extends = H.extended }) (standing bench.old (H.listed holder.old) (H.memory holder.old))) h after × Kept bench.new (H.room holder.new) (H.listed holder.new) after) }
 {
     check_room(answer, number)?;
     Ok(write(&obey(bench, holder, loss, bytes, number), answer))

@@ -4,6 +4,7 @@
 pub mod fields;
 pub mod headings;
 pub mod line;
+pub mod losses;
 pub mod pieces;
 pub mod points;
 pub mod requests;

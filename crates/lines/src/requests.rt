@@ -4,11 +4,11 @@ ghost use Rattle.lines.specs.Letters.{verb_of, verb_fields};
 ghost use Rattle.lines.specs.Requests.{begun, count_at, verb_request, line_request};
 
 use crate::line::Line;
+use crate::losses::LineLoss;
 use crate::points::LinePoint;
 use crate::verbs::Verb;
 use bench::Request;
 use fault::Fault;
-use loss::Loss;
 
 // The count of a line.
 fn count(line: &Line<'_>) -> Result<u32, Fault>
@@ -18,19 +18,19 @@ fn count(line: &Line<'_>) -> Result<u32, Fault>
 }
 
 // The verb of a line whose form is right and that has as many fields as the verb asks for.
-fn verb<L: Loss>(line: &Line<'_>) -> Result<Verb, Fault>
-    ensures { result ≡ begun verb_of (verb_fields L.FIELDS) line.now.number line.now.bytes.now }
+fn verb<L: LineLoss>(line: &Line<'_>) -> Result<Verb, Fault>
+    ensures { result ≡ begun verb_of (verb_fields L.LINE_FIELDS) line.now.number line.now.bytes.now }
 {
-    line.begin(Verb::of, |verb| verb.fields(L::FIELDS))
+    line.begin(Verb::of, |verb| verb.fields(L::LINE_FIELDS))
 }
 
 // The call that a line of a verb asks for.
-fn verb_request<P: LinePoint, L: Loss<Point = P> + Copy>(
+fn verb_request<P: LinePoint, L: LineLoss<Point = P> + Copy>(
     loss: &L,
     line: &Line<'_>,
     verb: Verb,
 ) -> Result<Request<P, L>, Fault>
-    ensures { result ≡ verb_request P.told L.FIELDS loss.now line.now.number line.now.bytes.now verb }
+    ensures { result ≡ verb_request P.told L.LINE_FIELDS loss.now line.now.number line.now.bytes.now verb }
 {
     match verb {
         Verb::Point => Ok(Request::Add(count(line)?, P::read(line)?)),
@@ -41,12 +41,12 @@ fn verb_request<P: LinePoint, L: Loss<Point = P> + Copy>(
 }
 
 // The call that a line behind the first asks for.
-pub fn read_request<P: LinePoint, L: Loss<Point = P> + Copy>(
+pub fn read_request<P: LinePoint, L: LineLoss<Point = P> + Copy>(
     loss: &L,
     bytes: &[u8],
     number: u32,
 ) -> Result<Request<P, L>, Fault>
-    ensures { result ≡ line_request P.told L.FIELDS loss.now number bytes.now }
+    ensures { result ≡ line_request P.told L.LINE_FIELDS loss.now number bytes.now }
 {
     let line = Line::new(bytes, number);
     verb_request(loss, &line, verb::<L>(&line)?)

@@ -22,8 +22,6 @@ pub trait Loss {
     // How many fields such a point takes on a line of input.
     const FIELDS: usize;
 
-    ghost FIELDS: { ℕ };
-
     ghost cost: { Self → Self.Point → ℕ → ℤ };
 
     ghost slope: { Self → Self.Point → ℕ → ℤ };

@@ -25,8 +25,6 @@ impl<L: Loss> Loss for PullLimit<L> {
 
     const FIELDS: usize = L::FIELDS;
 
-    ghost FIELDS = { L.Loss.FIELDS };
-
     ghost cost = { λ s p. steps_below (λ l. pull_cut s.limit (L.Loss.slope s.below p l)) };
 
     ghost slope = { λ s p l. pull_cut s.limit (L.Loss.slope s.below p l) };

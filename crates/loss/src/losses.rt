@@ -30,8 +30,6 @@ impl Loss for Squares {
 
     const FIELDS: usize = 4;
 
-    ghost FIELDS = { 4 };
-
     ghost cost = { λ _. square_cost };
 
     ghost slope = { λ _. square_step };
@@ -54,8 +52,6 @@ impl Loss for Absolute {
     type Point = Reading;
 
     const FIELDS: usize = 4;
-
-    ghost FIELDS = { 4 };
 
     ghost cost = { λ _. absolute_cost };
 
@@ -85,8 +81,6 @@ impl Loss for Bands {
     type Point = Band;
 
     const FIELDS: usize = 5;
-
-    ghost FIELDS = { 5 };
 
     ghost cost = { λ _. band_cost };
 

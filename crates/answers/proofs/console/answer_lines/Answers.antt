@@ -17,7 +17,7 @@ loop-i-init g c =
     let told = g.P.LinePoint.told in
     let cost = g.L.Loss.cost in
     let slope = g.L.Loss.slope in
-    let fields = g.L.Loss.FIELDS in
+    let fields = g.L.LineLoss.LINE_FIELDS in
     let loss = c.args.loss.now in
     let w : Writing = record { clears = holder.cleared; extends = holder.extended } in
     let top = c.args.bench.now.top in
@@ -49,7 +49,7 @@ loop-i-preserved g c =
     let told = g.P.LinePoint.told in
     let cost = g.L.Loss.cost in
     let slope = g.L.Loss.slope in
-    let fields = g.L.Loss.FIELDS in
+    let fields = g.L.LineLoss.LINE_FIELDS in
     let loss = c.args.loss.now in
     let w : Writing = record { clears = holder.cleared; extends = holder.extended } in
     let top = c.args.bench.now.top in

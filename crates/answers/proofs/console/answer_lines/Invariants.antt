@@ -16,7 +16,7 @@ invariant-loop-i g l =
     let told = g.P.LinePoint.told in
     let cost = g.L.Loss.cost in
     let slope = g.L.Loss.slope in
-    let fields = g.L.Loss.FIELDS in
+    let fields = g.L.LineLoss.LINE_FIELDS in
     let loss = l.loss in
     let w : Writing = record { clears = holder.cleared; extends = holder.extended } in
     let b = l.initial.bench in
