@@ -99,21 +99,30 @@ fn places<P: Copy>(unheld: P) -> [Entry<P>; PLACES]
     }; PLACES]
 }
 
-// Answers the lines behind the first with a new bench and a new table, and writes the rows of the table.
+// The bytes of a table, blank.
+#[tactic(auto, unfolding(crate::specs::Console::blank_bytes))]
+fn blank() -> [u8; TABLE_BYTES]
+    ensures { result ≡ blank_bytes }
+{
+    [0; TABLE_BYTES]
+}
+
+// Answers the lines behind the first with a new bench and a new table, and writes the rows of the table. The bytes of
+// the table are lent, so that the stack holds them once and not for each loss.
 fn answer_session<P: LinePoint, L: LineLoss<Point = P> + Copy>(
     loss: &L,
     top: u16,
     memory: &mut [Entry<P>],
+    bytes: &mut [u8],
     lines: Input<'_>,
     output: &mut Vec<u8>,
 ) -> Result<(), AllocError>
-    requires { length memory.old ≡ 1024 }
-    ensures output { OnOk result (output.new.items ≡ output.old.items ++ session_text P.told L.cost L.slope L.LINE_FIELDS loss.now top memory.old blank_bytes (pieces 10 lines.entry.bytes.now)) }
-    ensures law { OnOk result (SessionKeeps P.told L.cost L.slope L.LINE_FIELDS loss.now top memory.old blank_bytes (pieces 10 lines.entry.bytes.now)) }
+    requires { (length memory.old ≡ 1024) × (length bytes.old ≡ 15360) }
+    ensures output { OnOk result (output.new.items ≡ output.old.items ++ session_text P.told L.cost L.slope L.LINE_FIELDS loss.now top memory.old bytes.old (pieces 10 lines.entry.bytes.now)) }
+    ensures law { OnOk result (SessionKeeps P.told L.cost L.slope L.LINE_FIELDS loss.now top memory.old bytes.old (pieces 10 lines.entry.bytes.now)) }
 {
-    let mut bytes = [0; TABLE_BYTES];
     let mut bench = Bench::open(memory, top);
-    let mut table = TextTable::new(&mut bytes);
+    let mut table = TextTable::new(bytes);
     answer_lines(&mut bench, &mut table, loss, lines, output)?;
     output.extend_from_slice(table.text())?;
     Ok(())
@@ -125,19 +134,13 @@ fn answer_rest(heading: Heading, lines: Input<'_>, output: &mut Vec<u8>) -> Resu
     ensures law { OnOk result (RestKeeps heading.top heading.loss (pieces 10 lines.entry.bytes.now)) }
 {
     let top = heading.top;
+    let bytes = &mut blank();
+    let readings = &mut places(Reading::lightest());
+    let bands = &mut places(Band::lightest());
     match heading.loss {
-        LossName::Squares => {
-            let memory = &mut places(Reading::lightest());
-            answer_session(&Squares, top, memory, lines, output)
-        }
-        LossName::Absolute => {
-            let memory = &mut places(Reading::lightest());
-            answer_session(&Absolute, top, memory, lines, output)
-        }
-        LossName::Bands => {
-            let memory = &mut places(Band::lightest());
-            answer_session(&Bands, top, memory, lines, output)
-        }
+        LossName::Squares => answer_session(&Squares, top, readings, bytes, lines, output),
+        LossName::Absolute => answer_session(&Absolute, top, readings, bytes, lines, output),
+        LossName::Bands => answer_session(&Bands, top, bands, bytes, lines, output),
     }
 }
 
