@@ -5,7 +5,7 @@ use Rattle.table.specs.declared.binary.BinaryTable.{BinaryTable}
 use Rattle.table.specs.Binary.{binary_room}
 
 abbrev pub binary_rows : BinaryTable → List (ℕ × ℕ)
-binary_rows t = t.rows.items
+binary_rows t = t.rows
 
 -- all of the lent bytes, in use or not
 abbrev pub binary_memory : BinaryTable → List ℕ

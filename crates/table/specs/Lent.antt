@@ -5,7 +5,7 @@ use Rattle.table.specs.declared.text.TextTable.{TextTable}
 use Rattle.table.specs.Text.{text_room}
 
 abbrev pub text_rows : TextTable → List (ℕ × ℕ)
-text_rows t = t.rows.items
+text_rows t = t.rows
 
 -- all of the lent bytes, in use or not
 abbrev pub text_bytes : TextTable → List ℕ

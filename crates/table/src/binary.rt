@@ -2,8 +2,7 @@
 ghost use Rattle.std.specs.Prelude.{◌≡◌, ◌*◌, ◌≤◌, length, take};
 ghost use Rattle.table.specs.Binary.{block_count, binary_bytes, binary_room};
 
-use crate::holder::{MAX_ROWS, Row};
-use arrayvec::ArrayVec;
+use crate::rows::Rows;
 
 mod calls;
 
@@ -13,8 +12,8 @@ pub use crate::block::sum_bytes;
 #[derive(Drop)]
 pub struct BinaryTable<'a> {
     bytes: &'a mut [u8],
-    rows: ArrayVec<Row, MAX_ROWS>,
-    ghost fits: { length rows.items ≤ binary_room bytes.now },
+    rows: Rows,
+    ghost fits: { length rows ≤ binary_room bytes.now },
     // The blocks in use are the blocks of the rows.
-    ghost blocks: { take (512 * block_count (length rows.items)) bytes.now ≡ binary_bytes rows.items },
+    ghost blocks: { take (512 * block_count (length rows)) bytes.now ≡ binary_bytes rows },
 }

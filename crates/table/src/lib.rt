@@ -8,6 +8,7 @@ mod block_tests;
 pub mod convert;
 pub mod holder;
 pub mod opening;
+mod rows;
 #[cfg(test)]
 mod tests;
 pub mod text;

@@ -3,8 +3,8 @@ ghost use Rattle.std.specs.Prelude.{◌≡◌, ◌+◌, ◌*◌, ◌≤◌, leng
 ghost use Rattle.table.specs.Text.{row_text, table_text, text_room, over};
 
 use crate::block::write;
-use crate::holder::{MAX_ROWS, Row};
-use arrayvec::ArrayVec;
+use crate::holder::Row;
+use crate::rows::Rows;
 use itoa::Buffer;
 
 mod calls;
@@ -48,9 +48,9 @@ impl<'a> Page<'a> {
 #[derive(Drop)]
 pub struct TextTable<'a> {
     page: Page<'a>,
-    rows: ArrayVec<Row, MAX_ROWS>,
-    ghost fits: { length rows.items ≤ text_room page.bytes.now },
-    ghost short: { page.used ≤ 15 * length rows.items },
+    rows: Rows,
+    ghost fits: { length rows ≤ text_room page.bytes.now },
+    ghost short: { page.used ≤ 15 * length rows },
     // The bytes in use are the text of the rows.
-    ghost text: { take page.used page.bytes.now ≡ table_text rows.items },
+    ghost text: { take page.used page.bytes.now ≡ table_text rows },
 }

@@ -9,7 +9,7 @@ use crate::binary::BinaryTable;
 use crate::block::{BLOCK_BYTES, BLOCK_ROWS, Block, write};
 use crate::holder::{Holder, MAX_ROWS, Row, check_put};
 use crate::opening::open;
-use arrayvec::ArrayVec;
+use crate::rows::Rows;
 use fault::Fault;
 
 impl<'a> BinaryTable<'a> {
@@ -20,7 +20,7 @@ impl<'a> BinaryTable<'a> {
     {
         BinaryTable {
             bytes,
-            rows: ArrayVec::new(),
+            rows: Rows::new(),
         }
     }
 
@@ -30,10 +30,13 @@ impl<'a> BinaryTable<'a> {
         ensures rows { binary_rows result ≡ rows_or_none (opened bytes.old) }
         ensures bytes { binary_memory result ≡ bytes.old }
     {
-        let Ok(rows) = open(bytes) else {
+        let Ok(found) = open(bytes) else {
             return BinaryTable::new(bytes);
         };
-        BinaryTable { bytes, rows }
+        BinaryTable {
+            bytes,
+            rows: Rows::of(&found),
+        }
     }
 
     // The blocks in use.
@@ -55,7 +58,7 @@ impl<'a> BinaryTable<'a> {
         rows.push((count, level));
         let block = Block {
             number: number as u16,
-            rows: &rows[BLOCK_ROWS * number..],
+            rows: &rows.as_slice()[BLOCK_ROWS * number..],
         };
         write(bytes, BLOCK_BYTES * number, &block.bytes());
     }
@@ -81,13 +84,13 @@ impl<'a> Holder for BinaryTable<'a> {
     }
 
     fn put(&mut self, count: u32, level: u16) -> Result<(), Fault> {
-        check_put(&self.rows, self.capacity(), count)?;
+        check_put(self.rows.as_slice(), self.capacity(), count)?;
         self.push(count, level);
         Ok(())
     }
 
     fn row(&self, i: usize) -> Option<Row> {
-        self.rows.get(i).copied()
+        self.rows.as_slice().get(i).copied()
     }
 
     fn len(&self) -> usize {

@@ -4,8 +4,8 @@ ghost use Rattle.table.specs.Text.{table_text, text_room, text_extended, OneRead
 ghost use Rattle.table.specs.Lent.{text_rows, text_bytes, text_bounded, text_within};
 
 use crate::holder::{Holder, MAX_ROWS, Row, check_put};
+use crate::rows::Rows;
 use crate::text::{Page, TextTable};
-use arrayvec::ArrayVec;
 use fault::Fault;
 
 // The longest row: 8 digits, a space, 5 digits and a newline.
@@ -19,7 +19,7 @@ impl<'a> TextTable<'a> {
     {
         TextTable {
             page: Page { bytes, used: 0 },
-            rows: ArrayVec::new(),
+            rows: Rows::new(),
         }
     }
 
@@ -66,13 +66,13 @@ impl<'a> Holder for TextTable<'a> {
     }
 
     fn put(&mut self, count: u32, level: u16) -> Result<(), Fault> {
-        check_put(&self.rows, self.capacity(), count)?;
+        check_put(self.rows.as_slice(), self.capacity(), count)?;
         self.push(count, level);
         Ok(())
     }
 
     fn row(&self, i: usize) -> Option<Row> {
-        self.rows.get(i).copied()
+        self.rows.as_slice().get(i).copied()
     }
 
     fn len(&self) -> usize {
