@@ -3,6 +3,7 @@ pub mod Lines
 pub mod Answered
 pub mod Rises
 pub mod Written
+pub mod Digits
 pub mod Tables
 pub mod Reading
 pub mod Laid

@@ -1,13 +1,29 @@
 // The text holder: a table in lent bytes, one line a row.
-ghost use Rattle.std.specs.Prelude.{◌≡◌, ◌+◌, ◌*◌, ◌≤◌, length, take};
+ghost use Rattle.std.specs.Prelude.{◌≡◌, ◌+◌, ◌*◌, ◌≤◌, length, take, decimal};
 ghost use Rattle.table.specs.Text.{row_text, table_text, text_room, over};
 
-use crate::block::write;
 use crate::holder::Row;
 use crate::rows::Rows;
-use itoa::Buffer;
+use itoa::write_digits;
 
 mod calls;
+
+// How many digits a number has.
+fn digits(n: u32) -> usize
+    ensures { result ≡ length (decimal n) }
+{
+    if n < 10 {
+        1
+    } else if n < 100 {
+        2
+    } else if n < 1_000 {
+        3
+    } else if n < 10_000 {
+        4
+    } else {
+        digits(n / 10_000) + 4
+    }
+}
 
 // Lent bytes of which the first are in use. Their number stands beside them, since the caller lends the memory.
 #[derive(Drop)]
@@ -17,18 +33,7 @@ struct Page<'a> {
 }
 
 impl<'a> Page<'a> {
-    // Writes text behind the bytes in use.
-    fn append(&mut self, text: &[u8])
-        requires { self.old.used + length text.now ≤ length self.old.bytes.now }
-        ensures used { self.new.used ≡ self.old.used + length text.now }
-        ensures bytes { self.new.bytes.now ≡ over self.old.bytes.now self.old.used text.now }
-        ensures room { length self.new.bytes.now ≡ length self.old.bytes.now }
-    {
-        write(self.bytes, self.used, text);
-        self.used += text.len();
-    }
-
-    // Writes the line of a row behind the bytes in use.
+    // Writes the line of a row behind the bytes in use. Its digits are counted first, as they are written from the last on.
     fn append_row(&mut self, row: Row)
         requires { self.old.used + length (row_text row) ≤ length self.old.bytes.now }
         ensures used { self.new.used ≡ self.old.used + length (row_text row) }
@@ -36,11 +41,12 @@ impl<'a> Page<'a> {
         ensures room { length self.new.bytes.now ≡ length self.old.bytes.now }
     {
         let (count, level) = row;
-        let mut digits = Buffer::new();
-        self.append(digits.format(count).as_bytes());
-        self.append(b" ");
-        self.append(digits.format(level).as_bytes());
-        self.append(b"\n");
+        let end = self.used + digits(count) + 1 + digits(u32::from(level));
+        self.bytes[end] = b'\n';
+        let space = write_digits(u64::from(level), self.bytes, end) - 1;
+        self.bytes[space] = b' ';
+        write_digits(u64::from(count), self.bytes, space);
+        self.used = end + 1;
     }
 }
 

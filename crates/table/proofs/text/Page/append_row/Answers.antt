@@ -1,36 +1,23 @@
-use Rattle.std.proofs.Common.{◌≡◌, [], ◌∷◌, ◌++◌, length, decimal, ap, ◌∙◌, arith}
-use Rattle.std.proofs.lemmas.List.{append_assoc, length_push, length-append}
+use Rattle.std.proofs.Common.{◌+◌, length, decimal, ap, ◌∙◌, arith}
+use Rattle.std.proofs.lemmas.List.{length-set}
 use Rattle.table.specs.Text.{over}
-use Rattle.table.proofs.Written.{over_next, length_spaced}
+use Rattle.table.proofs.Written.{length_spaced, over_backwards, spaced}
 use Rattle.table.proofs.text.Page.append_row.Goals as goal
-use Rattle.table.proofs.text.Page.append_row.Goals.{After-as_bytes, After-as_bytes-2}
 
-count : (c : After-as_bytes) → c.as_bytes.result.now ≡ decimal c.args.row.0
-count c = c.as_bytes.ensures.value ∙ c.format.ensures.text
-
-level : (c : After-as_bytes-2) → c.as_bytes-2.result.now ≡ decimal c.args.row.1
-level c = c.as_bytes-2.ensures.value ∙ c.format-2.ensures.text
-
-pub returns : goal.returns
-returns c =
-    let at = goal.at.returns c in
+pub returns-clause-bytes : goal.returns-clause-bytes
+returns-clause-bytes c =
     let bs = c.args.self.now.bytes.now in
     let used = c.args.self.now.used in
-    let xs = decimal c.args.row.0 in
-    let ys = decimal c.args.row.1 in
-    let lx = ap length (count at.After-as_bytes) in
-    let ly = ap length (level at.After-as_bytes-2) in
-    let long = length_spaced xs ys in
-    let spaced = length_push xs 32 in
-    let both = length-append (xs ++ (32 ∷ [])) ys in
-    let one = c.append.ensures.bytes ∙ ap (over bs used) (count at.After-as_bytes) in
-    let two = over_next bs _ _ used _ xs (32 ∷ []) one (omega (arith, c.append.ensures.used, lx)) c.append-2.ensures.bytes (omega (arith, c.append.ensures.used, lx, long, c.requires)) in
-    let three = over_next bs _ _ used _ (xs ++ (32 ∷ [])) ys two (omega (arith, c.append.ensures.used, c.append-2.ensures.used, lx, spaced))
-    (c.append-3.ensures.bytes ∙ ap (over c.append-2.new.self.bytes.now c.append-2.new.self.used) (level at.After-as_bytes-2)) (omega (arith, c.append.ensures.used, c.append-2.ensures.used, lx, long, c.requires)) in
-    let four = over_next bs _ _ used _ ((xs ++ (32 ∷ [])) ++ ys) (10 ∷ []) three (omega (arith, c.append.ensures.used, c.append-2.ensures.used, c.append-3.ensures.used, lx, ly, spaced, both))
-    c.append-4.ensures.bytes (omega (arith, c.append.ensures.used, c.append-2.ensures.used, c.append-3.ensures.used, lx, ly, long, c.requires)) in
-    record {
-      used = omega (arith, c.append.ensures.used, c.append-2.ensures.used, c.append-3.ensures.used, c.append-4.ensures.used, lx, ly, long);
-      bytes = four ∙ ap (over bs used) (append_assoc (xs ++ (32 ∷ [])) ys (10 ∷ []) ∙ append_assoc xs (32 ∷ []) (ys ++ (10 ∷ [])));
-      room = c.append-4.ensures.room ∙ (c.append-3.ensures.room ∙ (c.append-2.ensures.room ∙ c.append.ensures.room));
-    }
+    let end = used + c.digits.result + 1 + c.digits-2.result in
+    let count = ap (λ n. length (decimal n)) c.from-3.ensures in
+    let level = ap (λ n. length (decimal n)) c.from-2.ensures in
+    let counted = ap (λ n. length (decimal n)) c.from.ensures in
+    over_backwards bs c.write_digits-space.new.buf c.write_digits.new.buf (decimal c.from-3.result) (decimal c.from-2.result)
+    used c.write_digits-space.result c.write_digits.result end
+    (omega (arith, count, level, counted, c.digits.ensures, c.digits-2.ensures))
+    (omega (arith, counted, c.digits.ensures, c.digits-2.ensures, c.requires, length_spaced (decimal c.args.row.0) (decimal c.args.row.1)))
+    (omega (arith, length-set bs end 10))
+    c.write_digits-space.ensures.start c.write_digits.ensures.start
+    c.write_digits-space.ensures.written c.write_digits-space.ensures.before
+    c.write_digits.ensures.written c.write_digits.ensures.before
+    ∙ (λ i. over bs used (spaced (decimal (c.from-3.ensures i)) (decimal (c.from-2.ensures i))))
