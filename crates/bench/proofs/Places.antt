@@ -1,12 +1,13 @@
 -- Where a count stands among entries by rising count. Assumes nothing.
-use Rattle.std.proofs.Common.{◌≡◌, ℕ, zero, suc, ◌<◌, ◌≤◌, true, false, ◌||◌, eqb, ltb, List, [], ◌∷◌, ◌++◌, length, get_or, take, drop, ◌-◌, ◌+◌, Ok, Err, Result, sym, refl, ap, ◌∙◌, ⊎_elim, arith}
+use Rattle.std.proofs.Common.{Bor, ◌≡◌, ℕ, zero, suc, ◌<◌, ◌≤◌, Bool, true, false, ◌||◌, eqb, ltb, List, [], ◌∷◌, ◌++◌, length, get_or, take, drop, ◌-◌, ◌+◌, Ok, Err, sym, refl, ap, ◌∙◌, subst, ⊎_elim, arith}
+use denote.Param.Members.{Mut}
+use Rattle.std.specs.Fn.{Called, ComputesKey}
 use Rattle.std.specs.List.{AllByRecursion, insert, remove}
-use Rattle.std.specs.List.Sorted.{IsBinarySearchResult, IsNonDecreasingBy, IsSearchInRange}
-use Rattle.std.specs.Ordering.{nat_cmp, ordering_index}
+use Rattle.std.specs.List.Sorted.{IsPartitionedBy, IsPartitionPoint}
 use Rattle.std.proofs.ByRecursion.{All-get_or, All-weaker}
 use Rattle.std.proofs.lemmas.List.{drop-take, take-take, length-take-le}
-use Rattle.std.proofs.lemmas.Cmp.{ranked}
-use Rattle.std.proofs.lemmas.Bool.{both_ways, cases_Bool, cases_lt, cases_eq, lt-ltb, le-ltb, eq-eqb, ne_eqb, or_right, cond-true, cond-false}
+use Rattle.std.proofs.lemmas.List.Sorted.{IsPartitionPoint-from_clause}
+use Rattle.std.proofs.lemmas.Bool.{both_ways, cases_Bool, cases_lt, cases_eq, lt-ltb, le-ltb, ltb-true, ltb-false, eq-eqb, ne_eqb, or_right, cond-true, cond-false}
 use Rattle.std.proofs.lemmas.Bool.Decides.{nat_tests}
 use Rattle.fit.specs.declared.Entry.{Entry}
 use Rattle.bench.specs.Held.{holds, with_point, without, taken_out, RisingCounts, below_count, found_place, memory_with, memory_without}
@@ -54,19 +55,44 @@ module _ {P : Type 0} (c : ℕ) where
       let rest = at_gap es k (omega arith) (λ i d l. low (suc i) d (omega arith)) (λ i d l m. high (suc i) d (omega arith) (omega arith)) in
       (holds_head x es (λ e. omega arith) ∙ rest.0, head_below x es under ∙ ap suc rest.1)
 
-  -- the comparisons with the count rise, as a binary search asks
-  comparisons_rise : (es : List (Entry P)) → RisingCounts es → IsNonDecreasingBy (λ e. ordering_index (nat_cmp e.count c)) es
-  comparisons_rise es r i j d h k = grind (arith, nat_tests, rising_at es i j d r, λ (same : i ≡ j). ap (λ n. (get_or es n d).count) same)
+  -- the counts rise, so those below this one lie first
+  parted : (es : List (Entry P)) → RisingCounts es → IsPartitionedBy (λ e. ltb e.count c) es
+  parted es r i j d h k below = grind (arith, nat_tests, rising_at es i j d r, λ (same : i ≡ j). ap (λ n. (get_or es n d).count) same)
 
-  -- what a binary search by count answers
-  pub searched : (es : List (Entry P)) (r : Result ℕ ℕ) → RisingCounts es → IsSearchInRange r (length es) → IsBinarySearchResult (λ e. nat_cmp e.count c) es r → r ≡ found_place c es
-  searched [] (Ok at) r h is = absurd (omega arith)
-  searched (x ∷ es) (Ok at) r h is =
-      let found = at_count (x ∷ es) at x r h (ranked _ c _ (sym (is x))) in
-      ap Ok (sym found.1) ∙ sym (cond-true (holds c (x ∷ es)) _ _ found.0)
-  searched es (Err at) r h is =
-      let parts = is (comparisons_rise es r) in
-      let none = at_gap es at h (λ i d l. ranked _ c _ (sym (parts.0 i d (omega arith) l))) (λ i d l m. ranked _ c _ (sym (parts.1 i d l m))) in
+  -- those below the count lie before the place, and the others from it on
+  abbrev pub Parted : List (Entry P) → ℕ → Type 0
+  Parted es at = (at ≤ length es) × IsPartitionPoint (λ e. ltb e.count c ≡ true) (λ e. ltb e.count c ≡ false) es at
+
+  -- what `partition_point` says, where each call tells whether an entry lies below the count
+  pub parted_at : (es : List (Entry P)) (at : ℕ) → RisingCounts es → {F : Type 0} {g : Mut F (Bor (Entry P) × Unit {0}) Bool} {f : F} {xs : List (Entry P)} → at ≤ length xs → ((q : Entry P → Bool) → ComputesKey g q f → IsPartitionedBy q xs → IsPartitionPoint (λ e. q e ≡ true) (λ e. q e ≡ false) xs at) → ((a : Bor (Entry P) × Unit {0}) (r : Bool) (f' : F) → Called g f a r f' → (r ≡ ltb a.0.now.count c) × (f' ≡ f)) → xs ≡ es → Parted es at
+  parted_at es at r bound clause calls same =
+      let below = λ (e : Entry P). ltb e.count c in
+      subst (λ xs. Parted xs at) same (bound, IsPartitionPoint-from_clause below _ at clause (subst (IsPartitionedBy below) (sym same) (parted es r)) calls)
+
+  -- the place behind those below the count: it stands there, or nowhere
+  pub found_at : (es : List (Entry P)) (at : ℕ) (d : Entry P) → RisingCounts es → at < length es → (get_or es at d).count ≡ c → Ok at ≡ found_place c es
+  found_at es at d r h is =
+      let found = at_count es at d r h is in
+      ap Ok (sym found.1) ∙ sym (cond-true (holds c es) _ _ found.0)
+
+  pub found_none : (es : List (Entry P)) (at : ℕ) → RisingCounts es → Parted es at → ((d : Entry P) → at < length es → (get_or es at d).count ≡ c → ⊥) → Err at ≡ found_place c es
+  found_none es at r is other =
+      let parts = is.1 in
+      let over = λ (i : ℕ) (d : Entry P) (l : at ≤ i) (m : i < length es). ltb-false (get_or es i d).count c (parts.1 i d l m) in
+      let none =
+      at_gap es at is.0
+      (λ i d l. ltb-true (get_or es i d).count c (parts.0 i d (omega arith) l))
+      (λ i d l m.
+      ⊎_elim
+      (λ (lt : c < (get_or es i d).count). lt)
+      (λ (ge : (get_or es i d).count ≤ c).
+      ⊎_elim
+      (λ (later : at < i). absurd (omega (arith, over at d (omega arith) (omega arith), rising_at es at i d r later m)))
+      (λ (here : i ≤ at).
+      let same : at ≡ i = omega arith in
+      absurd (other d (omega arith) (ap (λ n. (get_or es n d).count) same ∙ omega (arith, over i d l m))))
+      (cases_lt at i))
+      (cases_lt c (get_or es i d).count)) in
       ap Err (sym none.1) ∙ sym (cond-false (holds c es) _ _ none.0)
 
   -- a point goes in behind those below it

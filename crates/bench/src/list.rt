@@ -47,7 +47,13 @@ impl<'a, P: Copy> PointList<'a, P> {
         ensures bound { IsSearchInRange result (length (take self.now.held self.now.entries.now)) }
         ensures place { result ≡ found_place count (take self.now.held self.now.entries.now) }
     {
-        self.points().binary_search_by_key(&count, |e| e.count)
+        // Those of lower count lie first.
+        let points = self.points();
+        let at = points.partition_point(|e| e.count < count);
+        match points.get(at) {
+            Some(e) if e.count == count => Ok(at),
+            _ => Err(at),
+        }
     }
 
     // One point more, at the place where it belongs.
