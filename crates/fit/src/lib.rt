@@ -10,6 +10,7 @@ ghost use Rattle.fit.specs.MaxMin.{fitted};
 ghost use Rattle.fit.specs.Entries.{points_of};
 
 use loss::Loss;
+use std::iter::repeat_n;
 
 #[cfg(test)]
 mod tests;
@@ -159,7 +160,7 @@ impl Search {
     fn crossing<L: Loss>(mut self, run: &Run<L>, guess: u16) -> Crossing
         ensures { result.level ≡ crossing_of (L.slope run.now.loss.now) run.now.entries.now self.from self.to }
     {
-        let mut guesses = [guess; 2].into_iter();
+        let mut guesses = repeat_n(guess, 2);
         while let Some(level) = self.next_level(guesses.next()) {
             self.narrow(run, level);
         }
