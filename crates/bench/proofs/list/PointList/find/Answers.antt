@@ -1,4 +1,4 @@
-use Rattle.std.proofs.Common.{◌≡◌, ◌<◌, length, get_or, take, sym, ap, ◌∙◌, arith, rules}
+use Rattle.std.proofs.Common.{◌≡◌, ◌<◌, length, get_or, take, ap, ◌∙◌, arith, rules}
 use Rattle.std.proofs.lemmas.Grind.{common_steps}
 use Rattle.std.proofs.lemmas.List.{take_all}
 use Rattle.fit.specs.declared.Entry.{Entry}
@@ -21,7 +21,7 @@ returns-in-Some-clause-place g c =
     let same = c.points-points.ensures in
     let inside : at < length es = grind (arith, common_steps, c.in-Some.ensures.lookup, same) in
     let here : get_or es at e ≡ e = grind (arith, common_steps, c.in-Some.ensures.lookup, same) in
-    found_at c.args.count es at e c.args.self.now.order.0 inside (ap (λ (x : Entry g.row.P.Denot). x.count) here ∙ c.if-e-count.true)
+    found_at c.args.count es at e c.args.self.now.order.0 inside (ap (λ (x : Entry g.row.P.Denot). x.count) here ∙ omega arith)
 
 pub returns-in_default-clause-place : goal.returns-in_default-clause-place
 returns-in_default-clause-place g c =
@@ -30,7 +30,7 @@ returns-in_default-clause-place g c =
     let at = c.partition_point-at.result in
     let same = c.points-points.ensures in
     let here : (d : Entry g.row.P.Denot) → at < length es → get_or es at d ≡ e = grind (arith, common_steps, c.in-Some.ensures.lookup, same) in
-    found_none c.args.count es at c.args.self.now.order.0 (parts g (goal.at.returns-in_default-clause-place g c).After-partition_point-at) (λ d l is. c.if-e-count.false (sym (ap (λ (x : Entry g.row.P.Denot). x.count) (here d l)) ∙ is))
+    found_none c.args.count es at c.args.self.now.order.0 (parts g (goal.at.returns-in_default-clause-place g c).After-partition_point-at) (λ d l is. absurd (omega (arith, ap (λ (x : Entry g.row.P.Denot). x.count) (here d l), is)))
 
 pub returns-in_default-2-clause-place : goal.returns-in_default-2-clause-place
 returns-in_default-2-clause-place g c =
