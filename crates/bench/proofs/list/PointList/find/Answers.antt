@@ -13,6 +13,7 @@ parts g c =
     let found = c.partition_point-at in
     parted_at c.args.count _ found.result c.args.self.now.order.0 found.ensures.bound found.ensures.partitioned (λ a r q k. search rules) (grind (arith, common_steps, c.points-points.ensures, take_all))
 
+-- In both arms omega reads the comparison itself, so that count == e.count would do as well.
 pub returns-in-Some-clause-place : goal.returns-in-Some-clause-place
 returns-in-Some-clause-place g c =
     let es = take c.args.self.now.held c.args.self.now.entries.now in

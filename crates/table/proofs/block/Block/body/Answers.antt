@@ -4,7 +4,8 @@ use Rattle.table.specs.Binary.{block_head, block_body}
 use Rattle.table.proofs.Blocks.{filled, length_places}
 use Rattle.table.proofs.block.Block.body.Goals as goal
 
--- The number of rows goes by arithmetic, so that a head made of any part of the rows is asked for that number.
+-- The number of rows is shown by arithmetic, with length-take for a head made of the first of them: one that says too few
+-- is refused for its number, and not for its form.
 pub returns : goal.returns
 unfolding block_body
 returns c =
